@@ -1,0 +1,3 @@
+pub mod HalfLaw
+pub mod Nears
+pub mod SumLaws

@@ -1,0 +1,4 @@
+pub mod Frac
+pub mod Rounding
+pub mod Sums
+pub mod Nearness

@@ -1,0 +1,2 @@
+// The tariff layer: a tariff table within its limits, and the six lines of a bill by it.
+pub mod figures;
