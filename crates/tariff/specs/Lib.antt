@@ -1,0 +1,4 @@
+pub mod Limits
+pub mod Made
+pub mod LineNumbers
+pub mod Lines
