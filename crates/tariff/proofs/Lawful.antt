@@ -84,5 +84,5 @@ within f h =
       telcon = leb-true _ _ (prices 2);
       avv = leb-true _ _ (prices 3);
       ins = leb-true _ _ (prices 4);
-      rac = leb-true _ _ (prices 5)
+      rac = leb-true _ _ (prices 5);
     }

@@ -2,3 +2,5 @@ pub mod Limits
 pub mod Made
 pub mod LineNumbers
 pub mod Lines
+pub mod Amounts
+pub mod Bills

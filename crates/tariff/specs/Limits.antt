@@ -73,6 +73,10 @@ brackets-of f = take (f .count) (f .brackets)
 abbrev pub no-bracket : Bracket
 no-bracket = record { end = 0; reference = record { 0 = 0 } }
 
+-- the reference prices of brackets keep their limit
+abbrev pub Priced : List Bracket → Type 0
+Priced bs = (i : ℕ) → getD bs i no-bracket .reference .0 ≤ 100000000
+
 abbrev pub end-at : TariffFigures → ℕ → ℕ
 end-at f i = getD (brackets-of f) i no-bracket .end
 
@@ -80,28 +84,28 @@ end-at f i = getD (brackets-of f) i no-bracket .end
 unfoldable pub fixed-tests : TariffFigures → List (Option ℕ)
 fixed-tests f =
     unless (days-fit (f .days)) 1
-     ∷ first-beyond point-price-fits 2 (f .distribution)
-     ∷ first-beyond point-price-fits 26 (f .metering)
-     ∷ unless (commercial-fits (f .commercial)) 50
-     ∷ unless (count-fits (f .count)) 51
-     ∷ []
+    ∷ first-beyond point-price-fits 2 (f .distribution)
+    ∷ first-beyond point-price-fits 26 (f .metering)
+    ∷ unless (commercial-fits (f .commercial)) 50
+    ∷ unless (count-fits (f .count)) 51
+    ∷ []
 
 -- then, with k brackets, their ends from 52, their prices from 52 + k, the coefficients from 52 + 2k, GS and UG1
 unfoldable pub variable-tests : TariffFigures → List (Option ℕ)
 variable-tests f =
     first-bad-end 52 (brackets-of f)
-     ∷ first-beyond reference-fits (52 + f .count) (brackets-of f)
-     ∷ first-beyond coefficient-fits (52 + 2 * f .count) (f .coefficients)
-     ∷ first-beyond volume-price-fits (60 + 2 * f .count) (f .gs ∷ f .ug1 ∷ [])
-     ∷ []
+    ∷ first-beyond reference-fits (52 + f .count) (brackets-of f)
+    ∷ first-beyond coefficient-fits (52 + 2 * f .count) (f .coefficients)
+    ∷ first-beyond volume-price-fits (60 + 2 * f .count) (f .gs ∷ f .ug1 ∷ [])
+    ∷ []
 
 -- then the rate of return, 62 + 2k, the lives from 63 + 2k, and cou, coa, telcon, avv, ins and rac from 71 + 2k
 unfoldable pub cost-tests : TariffFigures → List (Option ℕ)
 cost-tests f =
     unless (rate-fits (f .rate)) (62 + 2 * f .count)
-     ∷ first-beyond life-fits (63 + 2 * f .count) (f .lives)
-     ∷ first-beyond point-price-fits (71 + 2 * f .count) (f .cou ∷ f .coa ∷ f .telcon ∷ f .avv ∷ f .ins ∷ f .rac ∷ [])
-     ∷ []
+    ∷ first-beyond life-fits (63 + 2 * f .count) (f .lives)
+    ∷ first-beyond point-price-fits (71 + 2 * f .count) (f .cou ∷ f .coa ∷ f .telcon ∷ f .avv ∷ f .ins ∷ f .rac ∷ [])
+    ∷ []
 
 -- the first bad figure of a table, in that order; none where every limit is kept
 unfoldable pub first-bad-figure : TariffFigures → Option ℕ
@@ -116,7 +120,7 @@ pub record Within (f : TariffFigures) : Type 0 where
   pub count : (1 ≤ f .count) × (f .count ≤ 8)
   pub rises : (i : ℕ) → suc i < length (brackets-of f) → end-at f i < end-at f (suc i)
   pub last : (i : ℕ) → suc i ≡ length (brackets-of f) → end-at f i ≡ 1000000000
-  pub reference : (i : ℕ) → getD (brackets-of f) i no-bracket .reference .0 ≤ 100000000
+  pub reference : Priced (brackets-of f)
   pub coefficients : (i : ℕ) → getD (f .coefficients) i (record { 0 = 0 }) .0 ≤ 2000000
   pub gs : f .gs .0 ≤ 100000000
   pub ug1 : f .ug1 .0 ≤ 100000000

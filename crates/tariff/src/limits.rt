@@ -137,13 +137,15 @@ fn count_fits(count: usize) -> bool
 fn first_bad_fixed(f: &TariffFigures) -> Option<u64>
     ensures { λ r. ⌜ r ≡ first-of (fixed-tests (now (f .entry))) ⌝ }
 {
-    first_of(&[
-        unless(days_fit(f.days), 1),
-        first_beyond(2, &f.distribution),
-        first_beyond(26, &f.metering),
-        unless(commercial_fits(f.commercial), 50),
-        unless(count_fits(f.count), 51),
-    ])
+    first_of(
+        &[
+            unless(days_fit(f.days), 1),
+            first_beyond(2, &f.distribution),
+            first_beyond(26, &f.metering),
+            unless(commercial_fits(f.commercial), 50),
+            unless(count_fits(f.count), 51),
+        ],
+    )
 }
 
 // The brackets of a table: the first `count` places.
@@ -162,12 +164,14 @@ fn first_bad_variable(f: &TariffFigures) -> Option<u64>
 {
     let k = f.count as u64;
     let brackets = brackets_of(f);
-    first_of(&[
-        first_bad_end(52, brackets),
-        first_beyond(52 + k, brackets),
-        first_beyond(52 + 2 * k, &f.coefficients),
-        first_beyond(60 + 2 * k, &[f.gs, f.ug1]),
-    ])
+    first_of(
+        &[
+            first_bad_end(52, brackets),
+            first_beyond(52 + k, brackets),
+            first_beyond(52 + 2 * k, &f.coefficients),
+            first_beyond(60 + 2 * k, &[f.gs, f.ug1]),
+        ],
+    )
 }
 
 // The rate of return, the lives and the prices that make up recognised revenue.
@@ -176,11 +180,13 @@ fn first_bad_cost(f: &TariffFigures) -> Option<u64>
     ensures { λ r. ⌜ r ≡ first-of (cost-tests (now (f .entry))) ⌝ }
 {
     let k = f.count as u64;
-    first_of(&[
-        unless(rate_fits(f.rate), 62 + 2 * k),
-        first_beyond(63 + 2 * k, &f.lives),
-        first_beyond(71 + 2 * k, &[f.cou, f.coa, f.telcon, f.avv, f.ins, f.rac]),
-    ])
+    first_of(
+        &[
+            unless(rate_fits(f.rate), 62 + 2 * k),
+            first_beyond(63 + 2 * k, &f.lives),
+            first_beyond(71 + 2 * k, &[f.cou, f.coa, f.telcon, f.avv, f.ins, f.rac]),
+        ],
+    )
 }
 
 /// The number of the first figure beyond its limit, or at odds with the figure before it.

@@ -9,10 +9,11 @@ returns-then-not-is-within g c =
     ∙ c .loop-figure .inv .1
 
 pub loop-figure-again : need.loop-figure-again
-loop-figure-again g c =
-    (omega arith,
-     sym (beyond-good (g .F·Limited .fits) (c .loop-figure .number) (c .args .list .now) (c .loop-figure .figure-index) (c .figure-item .result) (omega arith) (c .figure-item .is) (sym (c .if-not-is-within .ensures tt)))
-     ∙ c .loop-figure .inv .1)
+loop-figure-again g c = (
+  omega arith,
+  sym (beyond-good (g .F·Limited .fits) (c .loop-figure .number) (c .args .list .now) (c .loop-figure .figure-index) (c .figure-item .result) (omega arith) (c .figure-item .is) (sym (c .if-not-is-within .ensures tt)))
+      ∙ c .loop-figure .inv .1,
+)
 
 pub returns : need.returns
 returns g c =
