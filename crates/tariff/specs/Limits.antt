@@ -70,6 +70,14 @@ first-of (Some n ∷ os) = Some n
 abbrev pub brackets-of : TariffFigures → List Bracket
 brackets-of f = take (f .count) (f .brackets)
 
+-- the prices of lines 5 and 6
+abbrev pub components-of : TariffFigures → List VolumePrice
+components-of f = f .gs ∷ f .ug1 ∷ []
+
+-- the prices that make up recognised revenue
+abbrev pub costs-of : TariffFigures → List PointPrice
+costs-of f = f .cou ∷ f .coa ∷ f .telcon ∷ f .avv ∷ f .ins ∷ f .rac ∷ []
+
 abbrev pub no-bracket : Bracket
 no-bracket = record { end = 0; reference = record { 0 = 0 } }
 
@@ -96,7 +104,7 @@ variable-tests f =
     first-bad-end 52 (brackets-of f)
     ∷ first-beyond reference-fits (52 + f .count) (brackets-of f)
     ∷ first-beyond coefficient-fits (52 + 2 * f .count) (f .coefficients)
-    ∷ first-beyond volume-price-fits (60 + 2 * f .count) (f .gs ∷ f .ug1 ∷ [])
+    ∷ first-beyond volume-price-fits (60 + 2 * f .count) (components-of f)
     ∷ []
 
 -- then the rate of return, 62 + 2k, the lives from 63 + 2k, and cou, coa, telcon, avv, ins and rac from 71 + 2k
@@ -104,7 +112,7 @@ unfoldable pub cost-tests : TariffFigures → List (Option ℕ)
 cost-tests f =
     unless (rate-fits (f .rate)) (62 + 2 * f .count)
     ∷ first-beyond life-fits (63 + 2 * f .count) (f .lives)
-    ∷ first-beyond point-price-fits (71 + 2 * f .count) (f .cou ∷ f .coa ∷ f .telcon ∷ f .avv ∷ f .ins ∷ f .rac ∷ [])
+    ∷ first-beyond point-price-fits (71 + 2 * f .count) (costs-of f)
     ∷ []
 
 -- the first bad figure of a table, in that order; none where every limit is kept
@@ -122,13 +130,7 @@ pub record Within (f : TariffFigures) : Type 0 where
   pub last : (i : ℕ) → suc i ≡ length (brackets-of f) → end-at f i ≡ 1000000000
   pub reference : Priced (brackets-of f)
   pub coefficients : (i : ℕ) → getD (f .coefficients) i (record { 0 = 0 }) .0 ≤ 2000000
-  pub gs : f .gs .0 ≤ 100000000
-  pub ug1 : f .ug1 .0 ≤ 100000000
+  pub components : (i : ℕ) → getD (components-of f) i (record { 0 = 0 }) .0 ≤ 100000000
   pub rate : f .rate .0 ≤ 2000
   pub lives : (i : ℕ) → getD (f .lives) i (record { 0 = 0 }) .0 ≤ 60
-  pub cou : f .cou .0 ≤ 1000000000
-  pub coa : f .coa .0 ≤ 1000000000
-  pub telcon : f .telcon .0 ≤ 1000000000
-  pub avv : f .avv .0 ≤ 1000000000
-  pub ins : f .ins .0 ≤ 1000000000
-  pub rac : f .rac .0 ≤ 1000000000
+  pub costs : (i : ℕ) → getD (costs-of f) i (record { 0 = 0 }) .0 ≤ 1000000000

@@ -1,9 +1,10 @@
 // Which figure of a tariff table is the first beyond its limit.
 ghost use mathlib.Core.Path.{_≡_};
-ghost use mathlib.Core.Bool.{Bool};
+ghost use mathlib.Core.Bool.{Bool, false};
+ghost use Rattle.std.specs.Options.{isSome};
 ghost use Prim.Native.Nat.{_≤_};
 ghost use lib.ListN.{length};
-ghost use Rattle.tariff.specs.Limits.{days-fit, commercial-fits, count-fits, rate-fits, point-price-fits, volume-price-fits, coefficient-fits, life-fits, reference-fits, brackets-of, unless, first-beyond, first-bad-end, first-of, fixed-tests, variable-tests, cost-tests, first-bad-figure};
+ghost use Rattle.tariff.specs.Limits.{days-fit, commercial-fits, count-fits, rate-fits, point-price-fits, volume-price-fits, coefficient-fits, life-fits, reference-fits, brackets-of, unless, first-beyond, first-bad-end, first-of, fixed-tests, variable-tests, cost-tests, first-bad-figure, Within};
 use crate::figures::Bracket;
 use crate::figures::Coefficient;
 use crate::figures::Life;
@@ -189,9 +190,11 @@ fn first_bad_cost(f: &TariffFigures) -> Option<u64>
     )
 }
 
-/// The number of the first figure beyond its limit, or at odds with the figure before it.
+/// The number of the first figure beyond its limit, or at odds with the figure before it; none exactly where every limit is kept.
 pub fn first_bad_figure(f: &TariffFigures) -> Option<u64>
-    ensures { λ r. ⌜ r ≡ first-bad-figure (now (f .entry)) ⌝ }
+    ensures value { λ r. ⌜ r ≡ first-bad-figure (now (f .entry)) ⌝ }
+    ensures kept { λ r. ⌜ (isSome r ≡ false → Within (now (f .entry))) ⌝ }
+    ensures only { λ r. ⌜ (Within (now (f .entry)) → isSome r ≡ false) ⌝ }
 {
     let fixed = first_bad_fixed(f);
     // past 8 brackets no later figure is asked for
