@@ -76,7 +76,7 @@ within f h =
       components = λ i. leb-true _ _ (fits-at volume-price-fits (record { 0 = 0 }) refl (60 + 2 * f .count) (components-of f) (variable 3) i);
       rate = leb-true _ _ (fits-of (rate-fits (f .rate)) (62 + 2 * f .count) (cost 0));
       lives = λ i. leb-true _ _ (fits-at life-fits (record { 0 = 0 }) refl (63 + 2 * f .count) (f .lives) (cost 1) i);
-      costs = λ i. leb-true _ _ (fits-at point-price-fits (record { 0 = 0 }) refl (71 + 2 * f .count) (costs-of f) (cost 2) i)
+      costs = λ i. leb-true _ _ (fits-at point-price-fits (record { 0 = 0 }) refl (71 + 2 * f .count) (costs-of f) (cost 2) i);
     }
 
 -- ---- And back
@@ -108,20 +108,20 @@ unfolding first-bad-figure fixed-tests variable-tests cost-tests
 nothing-bad f w =
     none-cons _ _
     (none-cons _ _ (none-unless _ 1 (year-fits (f .days) (w .year)))
-     (none-cons _ _ (none-beyond point-price-fits (record { 0 = 0 }) 2 (f .distribution) (λ i. le-leb _ _ (w .distribution i)))
-      (none-cons _ _ (none-beyond point-price-fits (record { 0 = 0 }) 26 (f .metering) (λ i. le-leb _ _ (w .metering i)))
-       (none-cons _ _ (none-unless _ 50 (and-from _ _ (le-leb _ _ (w .commercial .0)) (le-leb _ _ (w .commercial .1))))
-        (none-cons _ _ (none-unless _ 51 (and-from _ _ (le-leb _ _ (w .count .0)) (le-leb _ _ (w .count .1)))) refl)))))
+    (none-cons _ _ (none-beyond point-price-fits (record { 0 = 0 }) 2 (f .distribution) (λ i. le-leb _ _ (w .distribution i)))
+    (none-cons _ _ (none-beyond point-price-fits (record { 0 = 0 }) 26 (f .metering) (λ i. le-leb _ _ (w .metering i)))
+    (none-cons _ _ (none-unless _ 50 (and-from _ _ (le-leb _ _ (w .commercial .0)) (le-leb _ _ (w .commercial .1))))
+    (none-cons _ _ (none-unless _ 51 (and-from _ _ (le-leb _ _ (w .count .0)) (le-leb _ _ (w .count .1)))) refl)))))
     (none-cons _ _
-     (none-cons _ _ (none-ends 52 (brackets-of f) (w .rises) (w .last))
-      (none-cons _ _ (none-beyond reference-fits no-bracket (52 + f .count) (brackets-of f) (λ i. le-leb _ _ (w .reference i)))
-       (none-cons _ _ (none-beyond coefficient-fits (record { 0 = 0 }) (52 + 2 * f .count) (f .coefficients) (λ i. le-leb _ _ (w .coefficients i)))
-        (none-cons _ _ (none-beyond volume-price-fits (record { 0 = 0 }) (60 + 2 * f .count) (components-of f) (λ i. le-leb _ _ (w .components i))) refl))))
-     (none-cons _ _
-      (none-cons _ _ (none-unless _ (62 + 2 * f .count) (le-leb _ _ (w .rate)))
-       (none-cons _ _ (none-beyond life-fits (record { 0 = 0 }) (63 + 2 * f .count) (f .lives) (λ i. le-leb _ _ (w .lives i)))
-        (none-cons _ _ (none-beyond point-price-fits (record { 0 = 0 }) (71 + 2 * f .count) (costs-of f) (λ i. le-leb _ _ (w .costs i))) refl)))
-      refl))
+    (none-cons _ _ (none-ends 52 (brackets-of f) (w .rises) (w .last))
+    (none-cons _ _ (none-beyond reference-fits no-bracket (52 + f .count) (brackets-of f) (λ i. le-leb _ _ (w .reference i)))
+    (none-cons _ _ (none-beyond coefficient-fits (record { 0 = 0 }) (52 + 2 * f .count) (f .coefficients) (λ i. le-leb _ _ (w .coefficients i)))
+    (none-cons _ _ (none-beyond volume-price-fits (record { 0 = 0 }) (60 + 2 * f .count) (components-of f) (λ i. le-leb _ _ (w .components i))) refl))))
+    (none-cons _ _
+    (none-cons _ _ (none-unless _ (62 + 2 * f .count) (le-leb _ _ (w .rate)))
+    (none-cons _ _ (none-beyond life-fits (record { 0 = 0 }) (63 + 2 * f .count) (f .lives) (λ i. le-leb _ _ (w .lives i)))
+    (none-cons _ _ (none-beyond point-price-fits (record { 0 = 0 }) (71 + 2 * f .count) (costs-of f) (λ i. le-leb _ _ (w .costs i))) refl)))
+    refl))
 
 pub decides : (f : TariffFigures) (r : Option ℕ) → r ≡ first-bad-figure f → (isSome r ≡ false → Within f) × (Within f → isSome r ≡ false)
 decides f r e = (λ h. within f (sym (ap isSome e) ∙ h), λ w. ap isSome e ∙ nothing-bad f w)

@@ -1,0 +1,53 @@
+-- That no rule answers more than 10^9: no definition, only the facts that the rules' ghost members cite.
+use Prim.Native.Nat.{ℕ, zero, suc, _+_, _-_, _≤_}
+use mathlib.Core.Path.{_≡_, refl}
+use mathlib.Core.Bool.{Bool, true, false, cond}
+use mathlib.Core.List.{List, [], _∷_}
+use native.Mathlib.Nat.{mul-le-mul-right}
+use native.Mathlib.Omega.{arith}
+use lib.Dec.{leb, eqb}
+use lib.ListN.{getD}
+use Rattle.std.specs.Options.{isSome}
+use Rattle.std.specs.declared.option.Option.{Option}
+use Rattle.std.specs.declared.option.Option.the-variants.{Some}
+use Rattle.std.proofs.shelf.Tests.{true≢false, ltb-false, cond-both}
+use Rattle.rounding.proofs.HalfLaw.{rounded-at-most}
+use Rattle.units.specs.declared.amounts.PointPrice.{PointPrice}
+use Rattle.management.specs.declared.size.Size.{Size}
+use Rattle.management.specs.declared.size.Size.the-variants.{Medium, Large}
+use Rattle.management.specs.declared.weights.Weights.{Weights}
+use Rattle.management.specs.Prices.{beyond, first-beyond, price-of}
+use Rattle.management.specs.Sizes.{figure, size-of}
+use Rattle.management.specs.Weights.{weights-of, quarters, weighed, mean}
+use Rattle.management.specs.Rules.{municipal-price, area-wide-price}
+
+passed : (b : Bool) (n : ℕ) (rest : Option ℕ) → isSome (cond b (Some n) rest) ≡ false → (b ≡ false) × (isSome rest ≡ false)
+passed true n rest e = absurd (true≢false e)
+passed false n rest e = (refl, e)
+
+pub at-limited : (n : ℕ) (prices : List PointPrice) → isSome (first-beyond n prices) ≡ false → (k : ℕ) → getD prices k (record { 0 = 0 }) .0 ≤ 1000000000
+at-limited n [] e k = omega arith
+at-limited n (p ∷ ps) e zero = ltb-false 1000000000 (p .0) (passed (beyond p) n (first-beyond (n + 1) ps) e .0)
+at-limited n (p ∷ ps) e (suc k) = at-limited (n + 1) ps (passed (beyond p) n (first-beyond (n + 1) ps) e .1) k
+
+pub four-quarters : (year : ℕ) → weights-of year .0 + weights-of year .1 ≡ 4
+four-quarters year =
+    let Four : Weights → Type 0 = λ w. w .0 + w .1 ≡ 4 in
+    cond-both (leb year 4) (quarters 2 2) _ Four (λ _. refl) (λ _. cond-both (eqb year 5) (quarters 1 3) (quarters 0 4) Four (λ _. refl) (λ _. refl))
+
+pub mean-limited : (w : Weights) (medium large : ℕ) → w .0 + w .1 ≡ 4 → medium ≤ 1000000000 → large ≤ 1000000000 → mean w medium large ≤ 1000000000
+mean-limited w medium large four m l =
+    rounded-at-most (weighed w medium large) 4 1000000000 (omega (arith, mul-le-mul-right (w .0) m, mul-le-mul-right (w .1) l))
+
+module _ (prices : List PointPrice) (within : isSome (first-beyond 1 prices) ≡ false) where
+  pub price-limited : (size : Size) (density : ℕ) → price-of prices size density ≤ 1000000000
+  price-limited size density = at-limited 1 prices within (figure size density - 1)
+
+  pub municipal-limited : (points density : ℕ) → municipal-price prices points density ≤ 1000000000
+  municipal-limited points density = price-limited (size-of points) density
+
+  pub area-wide-limited : (points density year : ℕ) → area-wide-price prices points density year ≤ 1000000000
+  area-wide-limited points density year =
+      let large = price-limited Large density in
+      let mixed = mean-limited (weights-of year) _ _ (four-quarters year) (price-limited Medium density) large in
+      cond-both (leb points 300000) _ _ (λ x. x ≤ 1000000000) (λ _. mixed) (λ _. large)
