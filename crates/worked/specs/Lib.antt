@@ -1,0 +1,2 @@
+pub mod Year
+pub mod Figures
