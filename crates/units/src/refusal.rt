@@ -3,7 +3,7 @@ ghost use mathlib.Core.Path.{_≡_};
 ghost use Rattle.units.specs.Refusals.{reason-number, reason-layer, layer-number};
 use std::fmt;
 
-#[derive(Clone, Copy, PartialEq, Eq)]
+#[derive(Clone, Copy)]
 pub enum Reason {
     TariffLimit,
     BookNotOpen,
@@ -24,7 +24,7 @@ pub enum Reason {
     NoExpectedPoints,
 }
 
-#[derive(Clone, Copy, PartialEq, Eq)]
+#[derive(Clone, Copy)]
 pub enum Layer {
     Tariff,
     Tables,
@@ -33,7 +33,7 @@ pub enum Layer {
 }
 
 /// A reason, and the company, locality, point, figure or length that is at fault.
-#[derive(Clone, Copy, PartialEq, Eq)]
+#[derive(Clone, Copy)]
 pub struct Refusal {
     pub reason: Reason,
     pub place: u64,
