@@ -1,34 +1,28 @@
 -- That no rule answers more than 10^9: no definition, only the facts that the rules' ghost members cite.
-use Prim.Native.Nat.{ℕ, zero, suc, _+_, _-_, _≤_}
+use Prim.Native.Nat.{ℕ, _+_, _-_, _≤_}
 use mathlib.Core.Path.{_≡_, refl}
-use mathlib.Core.Bool.{Bool, true, false, cond}
-use mathlib.Core.List.{List, [], _∷_}
+use mathlib.Core.Bool.{false, cond}
+use mathlib.Core.List.{List}
 use native.Mathlib.Nat.{mul-le-mul-right}
 use native.Mathlib.Omega.{arith}
 use lib.Dec.{leb, eqb}
 use lib.ListN.{getD}
 use Rattle.std.specs.Options.{isSome}
-use Rattle.std.specs.declared.option.Option.{Option}
-use Rattle.std.specs.declared.option.Option.the-variants.{Some}
-use Rattle.std.proofs.shelf.Tests.{true≢false, ltb-false, cond-both}
+use Rattle.std.proofs.shelf.Tests.{leb-true, cond-both}
+use Rattle.limits.specs.First.{point-price-fits, first-beyond}
+use Rattle.limits.proofs.Firsts.{fits-at}
 use Rattle.rounding.proofs.HalfLaw.{rounded-at-most}
 use Rattle.units.specs.declared.amounts.PointPrice.{PointPrice}
 use Rattle.management.specs.declared.size.Size.{Size}
 use Rattle.management.specs.declared.size.Size.the-variants.{Medium, Large}
 use Rattle.management.specs.declared.weights.Weights.{Weights}
-use Rattle.management.specs.Prices.{beyond, first-beyond, price-of}
+use Rattle.management.specs.Prices.{price-of}
 use Rattle.management.specs.Sizes.{figure, size-of}
 use Rattle.management.specs.Weights.{weights-of, quarters, weighed, mean}
 use Rattle.management.specs.Rules.{municipal-price, area-wide-price}
 
-passed : (b : Bool) (n : ℕ) (rest : Option ℕ) → isSome (cond b (Some n) rest) ≡ false → (b ≡ false) × (isSome rest ≡ false)
-passed true n rest e = absurd (true≢false e)
-passed false n rest e = (refl, e)
-
-pub at-limited : (n : ℕ) (prices : List PointPrice) → isSome (first-beyond n prices) ≡ false → (k : ℕ) → getD prices k (record { 0 = 0 }) .0 ≤ 1000000000
-at-limited n [] e k = omega arith
-at-limited n (p ∷ ps) e zero = ltb-false 1000000000 (p .0) (passed (beyond p) n (first-beyond (n + 1) ps) e .0)
-at-limited n (p ∷ ps) e (suc k) = at-limited (n + 1) ps (passed (beyond p) n (first-beyond (n + 1) ps) e .1) k
+pub at-limited : (prices : List PointPrice) → isSome (first-beyond point-price-fits 1 prices) ≡ false → (k : ℕ) → getD prices k (record { 0 = 0 }) .0 ≤ 1000000000
+at-limited prices within k = leb-true _ _ (fits-at point-price-fits (record { 0 = 0 }) refl 1 prices within k)
 
 pub four-quarters : (year : ℕ) → weights-of year .0 + weights-of year .1 ≡ 4
 four-quarters year =
@@ -39,9 +33,9 @@ pub mean-limited : (w : Weights) (medium large : ℕ) → w .0 + w .1 ≡ 4 → 
 mean-limited w medium large four m l =
     rounded-at-most (weighed w medium large) 4 1000000000 (omega (arith, mul-le-mul-right (w .0) m, mul-le-mul-right (w .1) l))
 
-module _ (prices : List PointPrice) (within : isSome (first-beyond 1 prices) ≡ false) where
+module _ (prices : List PointPrice) (within : isSome (first-beyond point-price-fits 1 prices) ≡ false) where
   pub price-limited : (size : Size) (density : ℕ) → price-of prices size density ≤ 1000000000
-  price-limited size density = at-limited 1 prices within (figure size density - 1)
+  price-limited size density = at-limited prices within (figure size density - 1)
 
   pub municipal-limited : (points density : ℕ) → municipal-price prices points density ≤ 1000000000
   municipal-limited points density = price-limited (size-of points) density

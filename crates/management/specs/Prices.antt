@@ -1,9 +1,8 @@
 -- Which nine prices make a management rule, and which of them is that of a size and a density.
-use Prim.Native.Nat.{ℕ, _+_, _-_}
-use mathlib.Core.Bool.{Bool, cond}
-use mathlib.Core.List.{List, [], _∷_}
-use lib.Dec.{ltb}
+use Prim.Native.Nat.{ℕ, _-_}
+use mathlib.Core.List.{List}
 use lib.ListN.{getD}
+use Rattle.limits.specs.First.{point-price-fits, first-beyond}
 use Rattle.units.specs.declared.amounts.PointPrice.{PointPrice}
 use Rattle.units.specs.declared.refusal.Refusal.{Refusal}
 use Rattle.units.specs.declared.refusal.Reason.the-variants.{FigureLimit}
@@ -13,15 +12,6 @@ use Rattle.std.specs.declared.result.Result.{Result}
 use Rattle.std.specs.declared.result.Result.the-variants.{Ok, Err}
 use Rattle.management.specs.declared.size.Size.{Size}
 use Rattle.management.specs.Sizes.{figure}
-
--- a price over 10^9 millionths of a euro
-abbrev pub beyond : PointPrice → Bool
-beyond price = ltb 1000000000 (price .0)
-
--- the number of the first price beyond the limit, where the first of the list has the number n
-abbrev pub first-beyond : ℕ → List PointPrice → Option ℕ
-first-beyond n [] = None
-first-beyond n (p ∷ ps) = cond (beyond p) (Some n) (first-beyond (n + 1) ps)
 
 -- how the figure with this number is refused
 abbrev pub refusal-of : ℕ → Refusal
@@ -34,7 +24,7 @@ unless-found prices (Some n) = Err (refusal-of n)
 
 -- these prices, or the refusal of the first one beyond the limit; the figures count from 1
 abbrev pub checked : List PointPrice → Result (List PointPrice) Refusal
-checked prices = unless-found prices (first-beyond 1 prices)
+checked prices = unless-found prices (first-beyond point-price-fits 1 prices)
 
 -- the prices held by what was made, or its refusal
 abbrev pub prices-of : {X : Type 0} → (X → List PointPrice) → Result X Refusal → Result (List PointPrice) Refusal

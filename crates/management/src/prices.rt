@@ -1,12 +1,15 @@
 // Nine prices within their limit: for each size, small first, one for each density.
-ghost use Prim.Native.Nat.{_+_, _≤_, _<_};
+ghost use Prim.Native.Nat.{_≤_};
 ghost use mathlib.Core.Bool.{false};
 ghost use mathlib.Core.Path.{_≡_};
 ghost use lib.ListN.{length};
-ghost use Rattle.management.specs.Prices.{beyond, first-beyond, refusal-of, checked, prices-of, price-of};
+ghost use Rattle.limits.specs.First.{point-price-fits, first-beyond};
+ghost use Rattle.management.specs.Prices.{checked, prices-of, price-of};
 ghost use Rattle.std.specs.Options.{isSome};
 use crate::size::Size;
 use crate::traits::Traits;
+use limits::PointPriceLimited;
+use limits::first_beyond;
 use units::amounts::PointPrice;
 use units::refusal::Reason;
 use units::refusal::Refusal;
@@ -15,24 +18,7 @@ use units::refusal::Refusal;
 pub struct Prices {
     list: [PointPrice; 9],
     ghost nine: { length list ≡ 9 },
-    ghost within: { isSome (first-beyond 1 list) ≡ false },
-}
-
-fn is_beyond(price: PointPrice) -> bool
-    ensures { λ r. ⌜ r ≡ beyond price ⌝ }
-{
-    price.0 > 1_000_000_000
-}
-
-/// The refusal of the price at this index; figures count from 1.
-fn refusal_at(index: usize) -> Refusal
-    requires { ⌜ index < 9 ⌝ }
-    ensures { λ r. ⌜ r ≡ refusal-of (index + 1) ⌝ }
-{
-    Refusal {
-        reason: Reason::FigureLimit,
-        place: index as u64 + 1,
-    }
+    ghost within: { isSome (first-beyond point-price-fits 1 list) ≡ false },
 }
 
 impl Prices {
@@ -40,12 +26,13 @@ impl Prices {
     pub fn new(list: [PointPrice; 9]) -> Result<Prices, Refusal>
         ensures { λ r. ⌜ prices-of (λ p. p .list) r ≡ checked list ⌝ }
     {
-        for i in 0..9 {
-            if is_beyond(list[i]) {
-                return Err(refusal_at(i));
-            }
+        match first_beyond(1, &list) {
+            None => Ok(Prices { list }),
+            Some(place) => Err(Refusal {
+                reason: Reason::FigureLimit,
+                place,
+            }),
         }
-        Ok(Prices { list })
     }
 
     /// The price of a size, at the density of these traits.

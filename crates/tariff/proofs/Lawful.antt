@@ -11,31 +11,11 @@ use Rattle.std.specs.Options.{isSome}
 use Rattle.std.specs.declared.option.Option.{Option}
 use Rattle.std.specs.declared.option.Option.the-variants.{Some, None}
 use Rattle.std.proofs.shelf.Tests.{and-parts, and-from, or-cases, or-left, or-right, leb-true, ltb-true, eqb-true, le-leb, lt-ltb, eq-eqb, cond-true, false≢true}
-use Rattle.units.specs.declared.amounts.PointPrice.{PointPrice}
-use Rattle.units.specs.declared.amounts.VolumePrice.{VolumePrice}
 use Rattle.tariff.specs.declared.figures.Bracket.{Bracket}
 use Rattle.tariff.specs.declared.figures.TariffFigures.{TariffFigures}
-use Rattle.tariff.specs.Limits.{days-fit, point-price-fits, volume-price-fits, commercial-fits, count-fits, coefficient-fits, rate-fits, life-fits, reference-fits, unless, first-beyond, first-bad-end, first-of, brackets-of, components-of, costs-of, no-bracket, end-at, fixed-tests, variable-tests, cost-tests, first-bad-figure, Within}
-
--- nothing is found at all, so nothing at any place
-none-at : (os : List (Option ℕ)) → isSome (first-of os) ≡ false → (i : ℕ) → isSome (getD os i None) ≡ false
-none-at [] h i = refl
-none-at (Some n ∷ os) h i = absurd (false≢true (sym h))
-none-at (None ∷ os) h zero = refl
-none-at (None ∷ os) h (suc i) = none-at os h i
-
-goes-on : (fits : Bool) (o : Option ℕ) (n : ℕ) → isSome (cond fits o (Some n)) ≡ false → (fits ≡ true) × (isSome o ≡ false)
-goes-on true o n h = (refl, h)
-goes-on false o n h = absurd (false≢true (sym h))
-
-fits-of : (fits : Bool) (n : ℕ) → isSome (unless fits n) ≡ false → fits ≡ true
-fits-of fits n h = goes-on fits None n h .0
-
--- every figure of a list with no bad one fits, and so does what is read past its end
-fits-at : {X : Type 0} (fits : X → Bool) (d : X) → fits d ≡ true → (n : ℕ) (xs : List X) → isSome (first-beyond fits n xs) ≡ false → (i : ℕ) → fits (getD xs i d) ≡ true
-fits-at fits d fd n [] h i = fd
-fits-at fits d fd n (x ∷ xs) h zero = goes-on (fits x) (first-beyond fits (n + 1) xs) n h .0
-fits-at fits d fd n (x ∷ xs) h (suc i) = fits-at fits d fd (n + 1) xs (goes-on (fits x) (first-beyond fits (n + 1) xs) n h .1) i
+use Rattle.limits.specs.First.{point-price-fits, volume-price-fits, unless, first-beyond, first-of}
+use Rattle.limits.proofs.Firsts.{none-at, goes-on, fits-of, fits-at, none-cons, none-unless, none-beyond}
+use Rattle.tariff.specs.Limits.{days-fit, commercial-fits, count-fits, coefficient-fits, rate-fits, life-fits, reference-fits, first-bad-end, brackets-of, components-of, costs-of, no-bracket, end-at, fixed-tests, variable-tests, cost-tests, first-bad-figure, Within}
 
 rises-at : (n : ℕ) (bs : List Bracket) → isSome (first-bad-end n bs) ≡ false → (i : ℕ) → suc i < length bs → getD bs i no-bracket .end < getD bs (suc i) no-bracket .end
 rises-at n [] h i l = absurd (omega arith)
@@ -80,18 +60,6 @@ within f h =
     }
 
 -- ---- And back
-none-cons : (o : Option ℕ) (os : List (Option ℕ)) → isSome o ≡ false → isSome (first-of os) ≡ false → isSome (first-of (o ∷ os)) ≡ false
-none-cons (Some n) os h t = absurd (false≢true (sym h))
-none-cons None os h t = t
-
-none-unless : (fits : Bool) (n : ℕ) → fits ≡ true → isSome (unless fits n) ≡ false
-none-unless fits n h = ap (λ (b : Bool). isSome (unless b n)) h
-
-none-beyond : {X : Type 0} (fits : X → Bool) (d : X) (n : ℕ) (xs : List X) → ((i : ℕ) → fits (getD xs i d) ≡ true) → isSome (first-beyond fits n xs) ≡ false
-none-beyond fits d n [] h = refl
-none-beyond fits d n (x ∷ xs) h =
-    ap isSome (cond-true (fits x) (first-beyond fits (n + 1) xs) (Some n) (h 0)) ∙ none-beyond fits d (n + 1) xs (λ i. h (suc i))
-
 none-ends : (n : ℕ) (bs : List Bracket) → ((i : ℕ) → suc i < length bs → getD bs i no-bracket .end < getD bs (suc i) no-bracket .end) → ((i : ℕ) → suc i ≡ length bs → getD bs i no-bracket .end ≡ 1000000000) → isSome (first-bad-end n bs) ≡ false
 none-ends n [] r e = refl
 none-ends n (b ∷ []) r e = none-unless (eqb (b .end) 1000000000) n (eq-eqb (b .end) 1000000000 (e 0 refl))

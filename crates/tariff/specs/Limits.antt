@@ -10,6 +10,7 @@ use Rattle.std.specs.declared.option.Option.{Option}
 use Rattle.std.specs.declared.option.Option.the-variants.{Some, None}
 use Rattle.units.specs.declared.amounts.PointPrice.{PointPrice}
 use Rattle.units.specs.declared.amounts.VolumePrice.{VolumePrice}
+use Rattle.limits.specs.First.{point-price-fits, volume-price-fits, unless, first-beyond, first-of}
 use Rattle.tariff.specs.declared.figures.Bracket.{Bracket}
 use Rattle.tariff.specs.declared.figures.Coefficient.{Coefficient}
 use Rattle.tariff.specs.declared.figures.Life.{Life}
@@ -19,12 +20,6 @@ use Rattle.tariff.specs.declared.figures.TariffFigures.{TariffFigures}
 -- a year has 365 or 366 days
 abbrev pub days-fit : ℕ → Bool
 days-fit y = eqb y 365 || eqb y 366
-
-abbrev pub point-price-fits : PointPrice → Bool
-point-price-fits p = leb (p .0) 1000000000
-
-abbrev pub volume-price-fits : VolumePrice → Bool
-volume-price-fits p = leb (p .0) 100000000
 
 -- the commercial price divides the served points, so it is never 0
 abbrev pub commercial-fits : PointPrice → Bool
@@ -45,26 +40,11 @@ life-fits l = leb (l .0) 60
 abbrev pub reference-fits : Bracket → Bool
 reference-fits b = volume-price-fits (b .reference)
 
--- figure n, if it is bad
-abbrev pub unless : Bool → ℕ → Option ℕ
-unless fits n = cond fits None (Some n)
-
--- the first bad one of figures n, n + 1 and so on
-abbrev pub first-beyond : {X : Type 0} → (X → Bool) → ℕ → List X → Option ℕ
-first-beyond fits n [] = None
-first-beyond fits n (x ∷ xs) = cond (fits x) (first-beyond fits (n + 1) xs) (Some n)
-
 -- the first end that is not above the one before it, or the last end if it is not 10^9
 abbrev pub first-bad-end : ℕ → List Bracket → Option ℕ
 first-bad-end n [] = None
 first-bad-end n (b ∷ []) = unless (eqb (b .end) 1000000000) n
 first-bad-end n (b ∷ (c ∷ bs)) = cond (ltb (b .end) (c .end)) (first-bad-end (n + 1) (c ∷ bs)) (Some (n + 1))
-
--- the first that there is
-abbrev pub first-of : List (Option ℕ) → Option ℕ
-first-of [] = None
-first-of (None ∷ os) = first-of os
-first-of (Some n ∷ os) = Some n
 
 -- the brackets of a table
 abbrev pub brackets-of : TariffFigures → List Bracket

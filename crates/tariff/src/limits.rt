@@ -4,38 +4,20 @@ ghost use mathlib.Core.Bool.{Bool, false};
 ghost use Rattle.std.specs.Options.{isSome};
 ghost use Prim.Native.Nat.{_≤_};
 ghost use lib.ListN.{length};
-ghost use Rattle.tariff.specs.Limits.{days-fit, commercial-fits, count-fits, rate-fits, point-price-fits, volume-price-fits, coefficient-fits, life-fits, reference-fits, brackets-of, unless, first-beyond, first-bad-end, first-of, fixed-tests, variable-tests, cost-tests, first-bad-figure, Within};
+ghost use Rattle.limits.specs.First.{first-beyond, first-of};
+ghost use Rattle.tariff.specs.Limits.{days-fit, commercial-fits, count-fits, rate-fits, coefficient-fits, life-fits, reference-fits, brackets-of, first-bad-end, fixed-tests, variable-tests, cost-tests, first-bad-figure, Within};
 use crate::figures::Bracket;
 use crate::figures::Coefficient;
 use crate::figures::Life;
 use crate::figures::Rate;
 use crate::figures::TariffFigures;
+use limits::Limited;
+use limits::PointPriceLimited;
+use limits::VolumePriceLimited;
+use limits::first_beyond;
+use limits::first_of;
+use limits::unless;
 use units::amounts::PointPrice;
-use units::amounts::VolumePrice;
-
-/// A figure that has a limit by its kind.
-trait Limited {
-    ghost fits: { Self → Bool };
-
-    fn is_within(&self) -> bool
-        ensures { λ r. ⌜ r ≡ fits (now (self .entry)) ⌝ };
-}
-
-impl Limited for PointPrice as PointPriceLimited {
-    ghost fits = { point-price-fits };
-
-    fn is_within(&self) -> bool {
-        self.0 <= 1_000_000_000
-    }
-}
-
-impl Limited for VolumePrice as VolumePriceLimited {
-    ghost fits = { volume-price-fits };
-
-    fn is_within(&self) -> bool {
-        self.0 <= 100_000_000
-    }
-}
 
 impl Limited for Coefficient as CoefficientLimited {
     ghost fits = { coefficient-fits };
@@ -61,36 +43,12 @@ impl Limited for Bracket as ReferenceLimited {
     }
 }
 
-// The number of the first bad figure of a list whose first has the number `first`.
-fn first_beyond<F: Limited>(first: u64, list: &[F]) -> Option<u64>
+// `first_beyond` at lists as short as those of a tariff table.
+fn first_bad<F: Limited>(first: u64, list: &[F]) -> Option<u64>
     requires { ⌜ first ≤ 1000 ⌝ ∗ ⌜ length (now list) ≤ 1000 ⌝ }
     ensures { λ r. ⌜ r ≡ first-beyond (F·Limited .fits) first (now (list .entry)) ⌝ }
 {
-    let mut number = first;
-    for figure in list {
-        if !figure.is_within() {
-            return Some(number);
-        }
-        number += 1;
-    }
-    None
-}
-
-fn unless(fits: bool, number: u64) -> Option<u64>
-    ensures { λ r. ⌜ r ≡ unless fits number ⌝ }
-{
-    if fits { None } else { Some(number) }
-}
-
-fn first_of(found: &[Option<u64>]) -> Option<u64>
-    ensures { λ r. ⌜ r ≡ first-of (now (found .entry)) ⌝ }
-{
-    for number in found {
-        if number.is_some() {
-            return *number;
-        }
-    }
-    None
+    first_beyond(first, list)
 }
 
 // The number of the first bad end of brackets whose first end has the number `first`.
@@ -141,8 +99,8 @@ fn first_bad_fixed(f: &TariffFigures) -> Option<u64>
     first_of(
         &[
             unless(days_fit(f.days), 1),
-            first_beyond(2, &f.distribution),
-            first_beyond(26, &f.metering),
+            first_bad(2, &f.distribution),
+            first_bad(26, &f.metering),
             unless(commercial_fits(f.commercial), 50),
             unless(count_fits(f.count), 51),
         ],
@@ -168,9 +126,9 @@ fn first_bad_variable(f: &TariffFigures) -> Option<u64>
     first_of(
         &[
             first_bad_end(52, brackets),
-            first_beyond(52 + k, brackets),
-            first_beyond(52 + 2 * k, &f.coefficients),
-            first_beyond(60 + 2 * k, &[f.gs, f.ug1]),
+            first_bad(52 + k, brackets),
+            first_bad(52 + 2 * k, &f.coefficients),
+            first_bad(60 + 2 * k, &[f.gs, f.ug1]),
         ],
     )
 }
@@ -184,8 +142,8 @@ fn first_bad_cost(f: &TariffFigures) -> Option<u64>
     first_of(
         &[
             unless(rate_fits(f.rate), 62 + 2 * k),
-            first_beyond(63 + 2 * k, &f.lives),
-            first_beyond(71 + 2 * k, &[f.cou, f.coa, f.telcon, f.avv, f.ins, f.rac]),
+            first_bad(63 + 2 * k, &f.lives),
+            first_bad(71 + 2 * k, &[f.cou, f.coa, f.telcon, f.avv, f.ins, f.rac]),
         ],
     )
 }

@@ -7,5 +7,5 @@ pub returns : need.returns
 returns c =
     record {
       value = search needs;
-      small = at-limited 1 (c .args .self .now .list) (c .args .self .now .within) (c .figure .result - 1);
+      small = at-limited (c .args .self .now .list) (c .args .self .now .within) (c .figure .result - 1);
     }

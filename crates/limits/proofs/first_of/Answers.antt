@@ -1,7 +1,7 @@
 use mathlib.Core.Path.{sym, _∙_}
 use native.Mathlib.Omega.{arith}
-use Rattle.tariff.proofs.Firsts.{of-found, of-more, of-end}
-use Rattle.tariff.proofs.limits.first_of.Needs as need
+use Rattle.limits.proofs.Firsts.{of-found, of-more, of-end}
+use Rattle.limits.proofs.first_of.Needs as need
 
 pub returns-then-is-some : need.returns-then-is-some
 returns-then-is-some c =
