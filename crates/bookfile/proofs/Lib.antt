@@ -1,0 +1,3 @@
+mod Placing
+mod Mapping
+mod LineCounts
