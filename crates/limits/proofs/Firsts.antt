@@ -30,9 +30,13 @@ pub of-some : (o : Option ℕ) (os : List (Option ℕ)) → isSome o ≡ true �
 of-some (Some n) os h = refl
 of-some None os h = absurd (false≢true h)
 
-of-none : (o : Option ℕ) (os : List (Option ℕ)) → isSome o ≡ false → first-of (o ∷ os) ≡ first-of os
+pub of-none : (o : Option ℕ) (os : List (Option ℕ)) → isSome o ≡ false → first-of (o ∷ os) ≡ first-of os
 of-none (Some n) os h = absurd (false≢true (sym h))
 of-none None os h = refl
+
+pub of-one : (o : Option ℕ) → first-of (o ∷ []) ≡ o
+of-one (Some n) = refl
+of-one None = refl
 
 pub of-found : (os : List (Option ℕ)) (i : ℕ) → i < length os → isSome (getD os i None) ≡ true → first-of (drop i os) ≡ getD os i None
 of-found os i l h = at-drop-more first-of os i None l ∙ of-some _ _ h

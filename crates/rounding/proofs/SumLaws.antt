@@ -42,3 +42,10 @@ sumN-le f m (x ∷ xs) h = let ih = sumN-le f m xs h in let k = h x in omega ari
 -- one more element of a loop
 pub sumZ-more : {X : Type 0} (f : X → ℤ) (xs : List X) (i : ℕ) (d : X) → i < length xs → sumZ f (take (i + 1) xs) ≡ sumZ f (take i xs) +ℤ f (getD xs i d)
 sumZ-more f xs i d l = ap (sumZ f) (take-more xs i d l) ∙ sumZ-push f (take i xs) (getD xs i d)
+
+sumN-push : {X : Type 0} (f : X → ℕ) (xs : List X) (y : X) → sumN f (xs ++ (y ∷ [])) ≡ sumN f xs + f y
+sumN-push f [] y = omega arith
+sumN-push f (x ∷ xs) y = let ih = sumN-push f xs y in omega arith
+
+pub sumN-more : {X : Type 0} (f : X → ℕ) (xs : List X) (i : ℕ) (d : X) → i < length xs → sumN f (take (i + 1) xs) ≡ sumN f (take i xs) + f (getD xs i d)
+sumN-more f xs i d l = ap (sumN f) (take-more xs i d l) ∙ sumN-push f (take i xs) (getD xs i d)

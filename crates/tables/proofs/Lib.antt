@@ -1,0 +1,5 @@
+pub mod Faults
+pub mod Holding
+pub mod Reading
+pub mod Depreciating
+pub mod Nearing
