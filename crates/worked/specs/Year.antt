@@ -12,6 +12,8 @@ use Rattle.tariff.specs.declared.figures.Rate.{Rate}
 use Rattle.tariff.specs.declared.figures.Life.{Life}
 use Rattle.tariff.specs.declared.figures.TariffFigures.{TariffFigures}
 use Rattle.tariff.specs.declared.supply.Supply.{Supply}
+use Rattle.tables.specs.declared.rows.AssetRow.{AssetRow}
+use Rattle.tables.specs.declared.rows.LocalityRow.{LocalityRow}
 
 abbrev pub point-price : ℕ → PointPrice
 point-price p = record { 0 = p }
@@ -51,3 +53,18 @@ worked-table =
 -- area 1, class 1, not domestic
 abbrev pub worked-supply : Supply
 worked-supply = record { area = 1; class = 1; domestic = false; first = lit≤ tt; eighth = lit≤ tt; least = lit≤ tt; most = lit≤ tt }
+
+abbrev pub asset : ℕ → ℕ → ℕ → ℕ → AssetRow
+asset gross net contributions remaining = record { gross = gross; net = net; works = 0; contributions = contributions; remaining = remaining }
+
+-- in regime, with 100 expected and 40 smart points, a plant in row 3 and meters in row 6
+abbrev pub worked-locality : LocalityRow
+worked-locality =
+    record {
+      company = 0;
+      state = 1;
+      area = 1;
+      expected = 100;
+      smart = 40;
+      rows = asset 0 0 0 0 ∷ asset 0 0 0 0 ∷ asset 1000000 600000 0 0 ∷ asset 0 0 0 0 ∷ asset 0 0 0 0 ∷ asset 300000 100000 30000 10000 ∷ asset 0 0 0 0 ∷ asset 0 0 0 0 ∷ []
+    }

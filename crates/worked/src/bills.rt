@@ -11,7 +11,7 @@ use tariff::supply::Supply;
 use tariff::table::Tariff;
 use units::amounts::CentsDisplay;
 
-fn tariffs(heap: Global, text: &str) -> Result<Vec<Tariff>, AnyError> {
+pub fn tariffs(heap: Global, text: &str) -> Result<Vec<Tariff>, AnyError> {
     let mut tables = Vec::new(heap);
     for line in text.lines() {
         if line.starts_with('#') {
