@@ -1,3 +1,6 @@
 mod Placing
-mod Mapping
+mod Filling
 mod LineCounts
+mod SoFar
+mod Numerals
+mod Figuring

@@ -1,7 +1,9 @@
-pub mod Counts
-pub mod Figures
-pub mod Statements
+pub mod Grammar
+pub mod Syntax
+pub mod Numbers
+pub mod Calls
 pub mod Slots
 pub mod Tables
+pub mod Filed
 pub mod Files
 pub mod Naming

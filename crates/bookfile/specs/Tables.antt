@@ -1,56 +1,38 @@
--- What tariff table the given figures make: a figure that is not given is 0.
-use Prim.Native.Nat.{ℕ}
-use mathlib.Core.List.{List, map}
-use lib.ListN.{getD}
-use Rattle.std.specs.Options.{valueOr}
+-- What table the statements make.
+use Prim.Native.Nat.{ℕ, _+_, _-_, _*_}
+use mathlib.Core.Bool.{cond}
+use mathlib.Core.List.{List}
+use lib.Dec.{ltb}
+use lib.IntN.{ℤ}
+use lib.ListN.{replicate}
 use Rattle.std.specs.declared.option.Option.{Option}
 use Rattle.std.specs.declared.option.Option.the-variants.{Some, None}
-use Rattle.units.specs.declared.amounts.PointPrice.{PointPrice}
-use Rattle.units.specs.declared.amounts.VolumePrice.{VolumePrice}
-use Rattle.tariff.specs.declared.figures.Coefficient.{Coefficient}
-use Rattle.tariff.specs.declared.figures.Rate.{Rate}
-use Rattle.tariff.specs.declared.figures.Life.{Life}
-use Rattle.tariff.specs.declared.figures.TariffFigures.{TariffFigures}
+use Rattle.bookfile.specs.declared.statement.Statement.{Statement}
+use Rattle.bookfile.specs.declared.statement.Statement.the-variants.{Tariff, Distribution, Metering, Bracket, Coefficient, Life, Point, Bill}
 use Rattle.bookfile.specs.declared.table.Table.{Table}
+use Rattle.bookfile.specs.declared.table.puts.Span.{Span}
+use Rattle.bookfile.specs.Calls.{whole-at}
+use Rattle.bookfile.specs.Slots.{and-then, placed-all}
 
-abbrev pub figure : Option ℕ → ℕ
-figure o = valueOr o 0
+-- a table without figures
+abbrev pub empty-table : Table
+empty-table = record { slots = replicate 91 None; brackets = 0 }
 
-abbrev pub point-price : Option ℕ → PointPrice
-point-price o = record { 0 = figure o }
+-- the figures of a statement that go into a table of k brackets, to which slots, and how many brackets it has then:
+-- a row's figures follow those of the row before, and there is no ninth bracket
+abbrev pub span-of : Statement → List (Option ℤ) → ℕ → Option Span
+span-of Tariff zs k = Some (record { slot = 0; first = 0; count = 11; brackets = k })
+span-of Distribution zs k = Some (record { slot = 11 + 3 * (whole-at zs 0 - 1); first = 1; count = 3; brackets = k })
+span-of Metering zs k = Some (record { slot = 35 + 3 * (whole-at zs 0 - 1); first = 1; count = 3; brackets = k })
+span-of Coefficient zs k = Some (record { slot = 59 + 1 * (whole-at zs 0 - 1); first = 1; count = 1; brackets = k })
+span-of Life zs k = Some (record { slot = 67 + 1 * (whole-at zs 0 - 1); first = 1; count = 1; brackets = k })
+span-of Bracket zs k = cond (ltb k 8) (Some (record { slot = 75 + 2 * k; first = 0; count = 2; brackets = k + 1 })) None
+span-of Point zs k = Some (record { slot = 0; first = 0; count = 0; brackets = k })
+span-of Bill zs k = Some (record { slot = 0; first = 0; count = 0; brackets = k })
 
-abbrev pub volume-price : Option ℕ → VolumePrice
-volume-price o = record { 0 = figure o }
-
-abbrev pub coefficient : Option ℕ → Coefficient
-coefficient o = record { 0 = figure o }
-
-abbrev pub life : Option ℕ → Life
-life o = record { 0 = figure o }
-
--- the nth of the single figures
-abbrev pub single : Table → ℕ → Option ℕ
-single t n = getD (t .single) n None
-
--- the whole table; the single figures are days, commercial, gs, ug1, rate, cou, coa, telcon, avv, ins and rac
-abbrev pub table-figures : Table → TariffFigures
-table-figures t =
-    record {
-      days = figure (single t 0);
-      distribution = map point-price (t .distribution);
-      metering = map point-price (t .metering);
-      commercial = point-price (single t 1);
-      count = t .count;
-      brackets = t .brackets;
-      coefficients = map coefficient (t .coefficients);
-      gs = volume-price (single t 2);
-      ug1 = volume-price (single t 3);
-      rate = record { 0 = figure (single t 4) };
-      lives = map life (t .lives);
-      cou = point-price (single t 5);
-      coa = point-price (single t 6);
-      telcon = point-price (single t 7);
-      avv = point-price (single t 8);
-      ins = point-price (single t 9);
-      rac = point-price (single t 10);
-    }
+-- the table after a statement
+abbrev pub table-after : Statement → List (Option ℤ) → Table → Option Table
+table-after s zs t =
+    and-then (span-of s zs (t .brackets)) (λ p.
+    and-then (placed-all (t .slots) (p .slot) zs (p .first) (p .count)) (λ slots.
+    Some (record { slots = slots; brackets = p .brackets })))

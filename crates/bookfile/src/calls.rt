@@ -1,46 +1,44 @@
 // The calls of a book file: delivery points and their bills.
 ghost use mathlib.Core.Path.{_≡_};
-ghost use Rattle.std.specs.Results.{okPart};
-ghost use Rattle.bookfile.specs.Statements.{call-of};
-use crate::malformed::Malformed;
+ghost use Rattle.std.specs.Options.{Cases};
+ghost use Rattle.bookfile.specs.Calls.{call-of, Lawful};
+use crate::line::Line;
 use crate::statement::Statement;
-use crate::words::Figures;
-use crate::words::change;
-use crate::words::whole;
 
 #[derive(Clone, Copy)]
 pub enum Call {
     /// A delivery point is put at a place of the point table.
     Point {
-        place: u16,
+        place: u64,
         area: u64,
         class: u64,
         domestic: u64,
     },
     /// A bill changes a point's volume and days of the year to date.
     Bill {
-        point: u16,
+        point: u64,
         volume: i64,
         days: i64,
     },
 }
 
-/// The call that a statement makes, if it makes one.
-pub fn call_of(statement: Statement, figures: &Figures) -> Result<Option<Call>, Malformed>
-    ensures { λ r. ⌜ okPart r ≡ call-of statement (now (figures .entry)) ⌝ }
+/// The call that a line makes, if it makes one.
+pub(crate) fn call_of(line: &Line) -> Option<Call>
+    ensures value { λ r. ⌜ r ≡ call-of (now (line .entry) .statement) (now (line .entry) .figures) ⌝ }
+    ensures lawful { λ r. ⌜ Cases r (Unit {0}) Lawful ⌝ }
 {
-    match statement {
-        Statement::Point => Ok(Some(Call::Point {
-            place: whole(figures[0], "place", 0, 65535)? as u16,
-            area: whole(figures[1], "area", 1, 8)?,
-            class: whole(figures[2], "class", 0, u64::MAX)?,
-            domestic: whole(figures[3], "domestic", 0, u64::MAX)?,
-        })),
-        Statement::Bill => Ok(Some(Call::Bill {
-            point: whole(figures[0], "point", 0, 65535)? as u16,
-            volume: change(figures[1], "volume")?,
-            days: change(figures[2], "days")?,
-        })),
-        _ => Ok(None),
+    match line.statement {
+        Statement::Point => Some(Call::Point {
+            place: line.whole(0),
+            area: line.whole(1),
+            class: line.whole(2),
+            domestic: line.whole(3),
+        }),
+        Statement::Bill => Some(Call::Bill {
+            point: line.whole(0),
+            volume: line.change(1),
+            days: line.change(2),
+        }),
+        _ => None,
     }
 }

@@ -3,18 +3,15 @@ ghost use mathlib.Core.Path.{_≡_};
 ghost use Rattle.std.specs.Options as options;
 ghost use Rattle.std.specs.Results.{Cases};
 ghost use Rattle.std.specs.Vec.{made};
-ghost use Rattle.std.specs.Of.Vec.{vec-items};
-ghost use Rattle.std.specs.shelf.Lists.{All};
 ghost use Rattle.bookfile.specs.declared.file.Unread.the-variants.{Memory};
-ghost use Rattle.bookfile.specs.Files.{Sound, Placed};
-ghost use Rattle.bookfile.specs.Statements.{Lawful};
+ghost use Rattle.bookfile.specs.Calls.{Lawful};
+ghost use Rattle.bookfile.specs.Files.{Says, Placed, Step};
 use crate::calls::Call;
 use crate::calls::call_of;
+use crate::line::Line;
 use crate::malformed::Malformed;
 use crate::malformed::MalformedDisplay;
-use crate::statement::MOST_FIGURES;
 use crate::table::Table;
-use crate::words::read_statement;
 use std::alloc::AllocError;
 use std::alloc::Global;
 use std::alloc::Refused;
@@ -69,7 +66,7 @@ pub impl fmt::Display for Unread as UnreadDisplay {
 
 /// Reads a book file; of a malformed one it names the first bad line.
 pub fn read(heap: Global, text: &str) -> Result<BookFile, Unread>
-    ensures { λ r. ⌜ Cases r (λ book. All (Sound (now (text .entry))) (vec-items (book .calls))) (Placed (now (text .entry))) ⌝ }
+    ensures { λ r. ⌜ Cases r (Says (now (text .entry))) (Placed (now (text .entry))) ⌝ }
 {
     let mut table = Table::new();
     let mut calls = Vec::new(heap);
@@ -84,20 +81,18 @@ pub fn read(heap: Global, text: &str) -> Result<BookFile, Unread>
             calls.push(NumberedCall { line, call })?;
         }
     }
-    Ok(BookFile {
-        tariff: table.figures(),
-        calls,
-    })
+    let tariff = table.filed();
+    Ok(BookFile { tariff, calls })
 }
 
-// Reads a line: a statement on the tariff table goes into the table, and a call is answered.
-fn read_line(table: &mut Table, line: &str) -> Result<Option<Call>, Malformed>
-    ensures { λ r. ⌜ made r (λ o. options.Cases o (Unit {0}) Lawful) ⌝ }
+// Reads a line: what it says of the tariff table goes into the table, and its call is answered.
+fn read_line(table: &mut Table, row: &str) -> Result<Option<Call>, Malformed>
+    ensures lawful { λ r. ⌜ made r (λ o. options.Cases o (Unit {0}) Lawful) ⌝ }
+    ensures step { λ r. ⌜ made r (λ o. Step (now (row .entry)) (now (table .entry)) (now (table .exit)) o) ⌝ }
 {
-    let mut figures = [None; MOST_FIGURES];
-    let Some(statement) = read_statement(line, &mut figures)? else {
+    let Some(line) = Line::read(row)? else {
         return Ok(None);
     };
-    table.put(statement, &figures)?;
-    call_of(statement, &figures)
+    table.put(&line)?;
+    Ok(call_of(&line))
 }

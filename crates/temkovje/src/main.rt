@@ -1,50 +1,40 @@
-// Reads a book file, runs its calls, and prints what each of them did.
-mod answers;
-mod book;
+// The program: reads a book file, runs its calls and prints what each of them answers.
 mod points;
-mod start;
-#[cfg(test)]
-mod tests;
+mod report;
+mod run;
 
-use answers::AnswerDisplay;
-use start::NotRunDisplay;
-use start::start;
+use run::FailureDisplay;
+use run::run_book;
 use std::env;
-use std::error::AnyError;
 use std::fs;
 use std::io;
 
-// The text of the file that the first argument names, or of the standard input.
-fn text(rt: &LibcRuntime) -> io::Result<String> {
-    let mut args = env::args(rt)?;
-    let _ = args.next();
-    match args.next() {
+fn main(rt: LibcRuntime) -> io::Result<()> {
+    let text = match read_input(&rt) {
+        Ok(text) => text,
+        Err(e) => {
+            eprintln!(rt, "the book file cannot be read: {e}")?;
+            return Err(e);
+        }
+    };
+    match run_book(rt.alloc(), text.as_str()) {
+        Ok(out) => rt.print(out),
+        Err(failure) => {
+            eprintln!(rt, "{failure}")?;
+            Err(io::Error::from(io::ErrorKind::InvalidData))
+        }
+    }
+}
+
+// The file that the first argument names, or else the standard input.
+fn read_input(rt: &LibcRuntime) -> io::Result<String> {
+    match env::args(rt)?.nth(1) {
         Some(path) => fs::read_to_string(rt, path.as_str()),
         None => io::read_to_string(rt.alloc(), rt.stdin()),
     }
 }
 
-// Whether the file was run.
-fn run(rt: &LibcRuntime) -> Result<bool, AnyError> {
-    let text = text(rt)?;
-    match start(rt.alloc(), text.as_str()) {
-        Ok((mut book, calls)) => {
-            for numbered in calls.iter() {
-                rt.println(book.answer(numbered.call))?;
-            }
-            Ok(true)
-        }
-        Err(not_run) => {
-            eprintln!(rt, "{not_run}")?;
-            Ok(false)
-        }
-    }
-}
-
-fn main(rt: LibcRuntime) -> Result<(), AnyError> {
-    if rt.report(run(&rt))? {
-        Ok(())
-    } else {
-        Err("not run".into())
-    }
-}
+#[cfg(test)]
+mod reading_tests;
+#[cfg(test)]
+mod tests;

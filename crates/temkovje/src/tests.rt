@@ -1,78 +1,69 @@
-// What the program says of files that it does not run.
-use crate::start::NotRunDisplay;
-use crate::start::start;
-use std::alloc::Global;
+// What the program prints of example files.
+use crate::run::FailureDisplay;
+use crate::run::run_book;
 use std::test::*;
 
-fn says(heap: Global, text: &str, expected: &str) -> Result<(), Fail> {
-    match start(heap, text) {
-        Ok(_) => Err(Fail::new("the file is run")),
-        Err(not_run) => {
-            let said = format!(heap, "{not_run}")?;
-            if said.as_str() == expected {
-                Ok(())
-            } else {
-                Err(Fail::new(said.as_str()))
-            }
-        }
-    }
-}
+// A file, and what is printed of it.
+static PRINTED: [&str; 6] = [
+    "point place=0 area=1 class=1 domestic=0\nbill point=0 volume=1",
+    "line 2: expected the figure days",
+    "tariff days=364\npoint place=0 area=1 class=1 domestic=0",
+    "refusal 1 (layer 1, tariff) at figure 1: the tariff table breaks a limit: days of the year",
+    "tariff days=365 commercial=1825000 gs=100000 ug1=40000
+distribution area=2 class1=0 class2=36500000 class3=0
+metering area=2 class1=0 class2=18250000 class3=0
+bracket end=120 price=8000000\nbracket end=1000000000 price=5000000
+coefficient area=2 value=500000
+point place=9 area=2 class=2 domestic=1
+point place=9 area=2 class=2 domestic=2
+point place=8 area=2 class=0 domestic=2
+point place=8 area=2 class=3 domestic=2
+bill point=8 volume=1 days=1
+bill point=9 volume=1000000001 days=366
+bill point=9 volume=1000000000 days=366
+bill point=9 volume=220 days=365
+bill point=9 volume=-9223372036854775808 days=0
+bill point=9 volume=-100 days=-365",
+    "point 9: area 2, class 2, domestic
+point 9: refusal 6 (layer 2, tables) at place 9: the place is taken
+point 8: refusal 7 (layer 2, tables) at figure 1: a figure lies beyond its limit
+point 8: refusal 7 (layer 2, tables) at figure 2: a figure lies beyond its limit
+bill of point 8: refusal 5 (layer 2, tables) at place 8: nothing stands at a place that the call needs
+bill of point 9: refusal 14 (layer 2, tables) at point 9: the volume would leave 0 to 1000000000
+bill of point 9: refusal 15 (layer 2, tables) at point 9: the days would leave 0 to the days of the year
+bill of point 9: 220 Smc, 365 days; year to date 220 Smc, 365 days
+  cents                 before           now       charged
+  1 distribution             0          3650          3650
+  2 metering                 0          1825          1825
+  3 commercial               0           183           183
+  4 variable                 0           730           730
+  5 GS                       0             0             0
+  6 UG1                      0             9             9
+  lines 1 to 4               0          6388          6388
+  lines 5 and 6              0             9             9
+bill of point 9: refusal 14 (layer 2, tables) at point 9: the volume would leave 0 to 1000000000
+bill of point 9: -100 Smc, -365 days; year to date 120 Smc, 0 days
+  cents                 before           now       charged
+  1 distribution          3650             0         -3650
+  2 metering              1825             0         -1825
+  3 commercial             183             0          -183
+  4 variable               730           480          -250
+  5 GS                       0             0             0
+  6 UG1                      9             5            -4
+  lines 1 to 4            6388           480         -5908
+  lines 5 and 6              9             5            -4
+",
+];
 
 #[test]
-fn malformed_lines(rt: LibcRuntime) -> Result<(), Fail> {
-    for (text, expected) in [
-        (
-            "\n# a comment\nbil point=0",
-            "line 3: expected a statement that begins with one of tariff distribution metering bracket coefficient life point bill",
-        ),
-        (
-            "bill point=0 volume=5 dais=3",
-            "line 1: expected no figures but point volume days",
-        ),
-        ("bill point=0 volume=5", "line 1: expected the figure days"),
-        (
-            "bill point=0 volume 5 days=3",
-            "line 1: expected figures as name=number, with blanks only between them",
-        ),
-        (
-            "bill point=0 point=1 volume=5 days=3",
-            "line 1: expected the figure point only once",
-        ),
-        (
-            "tariff days=365 # the year\ntariff days=366",
-            "line 2: expected the figure days only once",
-        ),
-        (
-            "bill point=65536 volume=5 days=3",
-            "line 1: expected point from 0 to 65535",
-        ),
-        (
-            "metering area=0 class1=1 class2=2 class3=3",
-            "line 1: expected area from 1 to 8",
-        ),
-    ] {
-        says(rt.alloc(), text, expected)?;
-    }
-    Ok(())
-}
-
-#[test]
-fn refused_tables(rt: LibcRuntime) -> Result<(), Fail> {
-    for (text, expected) in [
-        (
-            "",
-            "tariff table: refusal 1 (layer 1, tariff) at figure 1: the tariff table breaks a limit; this figure is: days of the year",
-        ),
-        (
-            "tariff days=365",
-            "tariff table: refusal 1 (layer 1, tariff) at figure 50: the tariff table breaks a limit; this figure is: line 3 (commercial)",
-        ),
-        (
-            "tariff days=365 commercial=1\nbracket end=9 price=1",
-            "tariff table: refusal 1 (layer 1, tariff) at figure 52: the tariff table breaks a limit; this figure is: end of bracket 1",
-        ),
-    ] {
-        says(rt.alloc(), text, expected)?;
+fn files_are_answered(rt: LibcRuntime) -> Result<(), Fail> {
+    let heap = rt.alloc();
+    for i in 0..3 {
+        let said = match run_book(heap, PRINTED[2 * i]) {
+            Ok(out) => out,
+            Err(failure) => format!(heap, "{failure}")?,
+        };
+        check_eq(said.as_str(), PRINTED[2 * i + 1])?;
     }
     Ok(())
 }

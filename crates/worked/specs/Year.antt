@@ -66,5 +66,5 @@ worked-locality =
       area = 1;
       expected = 100;
       smart = 40;
-      rows = asset 0 0 0 0 ∷ asset 0 0 0 0 ∷ asset 1000000 600000 0 0 ∷ asset 0 0 0 0 ∷ asset 0 0 0 0 ∷ asset 300000 100000 30000 10000 ∷ asset 0 0 0 0 ∷ asset 0 0 0 0 ∷ []
+      rows = asset 0 0 0 0 ∷ asset 0 0 0 0 ∷ asset 1000000 600000 0 0 ∷ asset 0 0 0 0 ∷ asset 0 0 0 0 ∷ asset 300000 100000 30000 10000 ∷ asset 0 0 0 0 ∷ asset 0 0 0 0 ∷ [];
     }

@@ -53,12 +53,42 @@ fn component(locality: &Locality, table: &Tariff, service: Service) -> u64 {
     }
 }
 
-fn compare_line(rt: &LibcRuntime, tally: &mut Tally, line: u64, table: &Tariff, numbers: &mut Numbers) -> Result<(), AnyError> {
+fn compare_line(
+    rt: &LibcRuntime,
+    tally: &mut Tally,
+    line: u64,
+    table: &Tariff,
+    numbers: &mut Numbers,
+) -> Result<(), AnyError> {
     let locality = locality(numbers)?;
-    tally.compare(rt, line, "distribution cost", locality.capital_cost(table, Service::Distribution), numbers.take())?;
-    tally.compare(rt, line, "metering cost", locality.capital_cost(table, Service::Metering), numbers.take())?;
-    tally.compare(rt, line, "distribution component", component(&locality, table, Service::Distribution), numbers.take())?;
-    tally.compare(rt, line, "metering component", component(&locality, table, Service::Metering), numbers.take())?;
+    tally.compare(
+        rt,
+        line,
+        "distribution cost",
+        locality.capital_cost(table, Service::Distribution),
+        numbers.take(),
+    )?;
+    tally.compare(
+        rt,
+        line,
+        "metering cost",
+        locality.capital_cost(table, Service::Metering),
+        numbers.take(),
+    )?;
+    tally.compare(
+        rt,
+        line,
+        "distribution component",
+        component(&locality, table, Service::Distribution),
+        numbers.take(),
+    )?;
+    tally.compare(
+        rt,
+        line,
+        "metering component",
+        component(&locality, table, Service::Metering),
+        numbers.take(),
+    )?;
     tally.compare(rt, line, "locality", locality.figure(table), numbers.take())?;
     numbers.finish()
 }

@@ -1,8 +1,16 @@
-// The figures of a tariff table, from those that a book file gives.
+// The tariff table as it is filed, from the figures that are given.
 ghost use mathlib.Core.Path.{_≡_};
 ghost use mathlib.Core.List.{map};
-ghost use Rattle.bookfile.specs.Tables.{point-price, coefficient, life, table-figures};
+ghost use Prim.Native.Nat.{_<_, _≤_};
+ghost use Rattle.std.specs.Iters.{counting};
+ghost use Rattle.bookfile.specs.Filed.{figure, price, coefficient, life, bracket, filed};
+use super::BRACKETS;
+use super::COEFFICIENTS;
+use super::DISTRIBUTION;
+use super::LIVES;
+use super::METERING;
 use super::Table;
+use tariff::figures::Bracket;
 use tariff::figures::Coefficient;
 use tariff::figures::Life;
 use tariff::figures::Rate;
@@ -11,71 +19,79 @@ use units::amounts::PointPrice;
 use units::amounts::VolumePrice;
 
 impl Table {
-    /// The table as it is filed: a figure that is not given is 0.
-    pub fn figures(&self) -> TariffFigures
-        ensures { λ r. ⌜ r ≡ table-figures (now (self .entry)) ⌝ }
+    /// The table's figures; one that is not given is 0.
+    pub fn filed(&self) -> TariffFigures
+        ensures { λ r. ⌜ r ≡ filed (now (self .entry)) ⌝ }
     {
-        let [
-            days,
-            commercial,
-            gs,
-            ug1,
-            rate,
-            cou,
-            coa,
-            telcon,
-            avv,
-            ins,
-            rac,
-        ] = self.single;
         TariffFigures {
-            days: days.unwrap_or(0),
-            distribution: prices(&self.distribution),
-            metering: prices(&self.metering),
-            commercial: PointPrice(commercial.unwrap_or(0)),
-            count: self.count,
-            brackets: self.brackets,
-            coefficients: coefficients(&self.coefficients),
-            gs: VolumePrice(gs.unwrap_or(0)),
-            ug1: VolumePrice(ug1.unwrap_or(0)),
-            rate: Rate(rate.unwrap_or(0)),
-            lives: lives(&self.lives),
-            cou: PointPrice(cou.unwrap_or(0)),
-            coa: PointPrice(coa.unwrap_or(0)),
-            telcon: PointPrice(telcon.unwrap_or(0)),
-            avv: PointPrice(avv.unwrap_or(0)),
-            ins: PointPrice(ins.unwrap_or(0)),
-            rac: PointPrice(rac.unwrap_or(0)),
+            days: self.figure(0),
+            distribution: self.prices(DISTRIBUTION),
+            metering: self.prices(METERING),
+            commercial: PointPrice(self.figure(1)),
+            count: self.brackets,
+            brackets: self.bracket_list(),
+            coefficients: self.coefficients(),
+            gs: VolumePrice(self.figure(2)),
+            ug1: VolumePrice(self.figure(3)),
+            rate: Rate(self.figure(4)),
+            lives: self.lives(),
+            cou: PointPrice(self.figure(5)),
+            coa: PointPrice(self.figure(6)),
+            telcon: PointPrice(self.figure(7)),
+            avv: PointPrice(self.figure(8)),
+            ins: PointPrice(self.figure(9)),
+            rac: PointPrice(self.figure(10)),
         }
     }
-}
 
-fn prices(slots: &[Option<u64>; 24]) -> [PointPrice; 24]
-    ensures { λ r. ⌜ r ≡ map point-price (now (slots .entry)) ⌝ }
-{
-    let mut out = [PointPrice(0); 24];
-    for i in 0..24 {
-        out[i] = PointPrice(slots[i].unwrap_or(0));
+    fn figure(&self, slot: usize) -> u64
+        requires { ⌜ slot < 91 ⌝ }
+        ensures { λ r. ⌜ r ≡ figure (now (self .entry)) slot ⌝ }
+    {
+        self.slots[slot].unwrap_or(0)
     }
-    out
-}
 
-fn coefficients(slots: &[Option<u64>; 8]) -> [Coefficient; 8]
-    ensures { λ r. ⌜ r ≡ map coefficient (now (slots .entry)) ⌝ }
-{
-    let mut out = [Coefficient(0); 8];
-    for i in 0..8 {
-        out[i] = Coefficient(slots[i].unwrap_or(0));
+    fn prices(&self, from: usize) -> [PointPrice; 24]
+        requires { ⌜ from ≤ 35 ⌝ }
+        ensures { λ r. ⌜ r ≡ map (price (now (self .entry)) from) (counting 0 24) ⌝ }
+    {
+        let mut prices = [PointPrice(0); 24];
+        for i in 0..24 {
+            prices[i] = PointPrice(self.figure(from + i));
+        }
+        prices
     }
-    out
-}
 
-fn lives(slots: &[Option<u64>; 8]) -> [Life; 8]
-    ensures { λ r. ⌜ r ≡ map life (now (slots .entry)) ⌝ }
-{
-    let mut out = [Life(0); 8];
-    for i in 0..8 {
-        out[i] = Life(slots[i].unwrap_or(0));
+    fn coefficients(&self) -> [Coefficient; 8]
+        ensures { λ r. ⌜ r ≡ map (coefficient (now (self .entry))) (counting 0 8) ⌝ }
+    {
+        let mut coefficients = [Coefficient(0); 8];
+        for i in 0..8 {
+            coefficients[i] = Coefficient(self.figure(COEFFICIENTS + i));
+        }
+        coefficients
     }
-    out
+
+    fn lives(&self) -> [Life; 8]
+        ensures { λ r. ⌜ r ≡ map (life (now (self .entry))) (counting 0 8) ⌝ }
+    {
+        let mut lives = [Life(0); 8];
+        for i in 0..8 {
+            lives[i] = Life(self.figure(LIVES + i));
+        }
+        lives
+    }
+
+    fn bracket_list(&self) -> [Bracket; 8]
+        ensures { λ r. ⌜ r ≡ map (bracket (now (self .entry))) (counting 0 8) ⌝ }
+    {
+        let reference = VolumePrice(0);
+        let mut brackets = [Bracket { end: 0, reference }; 8];
+        for i in 0..8 {
+            let end = self.figure(BRACKETS + 2 * i);
+            let reference = VolumePrice(self.figure(BRACKETS + 2 * i + 1));
+            brackets[i] = Bracket { end, reference };
+        }
+        brackets
+    }
 }

@@ -1,8 +1,7 @@
-use Prim.Native.Nat.{_+_}
 use mathlib.Core.Path.{_≡_}
-use lib.ListN.{drop}
+use Rattle.std.specs.declared.option.Option.the-variants.{Some}
 use Rattle.bookfile.specs.Slots.{placed-all}
 use Rattle.bookfile.proofs.slots.put_all.Given as given
 
-abbrev pub Inv-loop-i : given.InvT-loop-i
-Inv-loop-i l = placed-all (l .needed) (l .slots) (l .from + l .i) (drop (l .i) (l .figures)) ≡ placed-all (l .needed) (l .entry .slots) (l .from) (l .figures)
+abbrev pub Inv-loop-k : given.InvT-loop-k
+Inv-loop-k l = placed-all (l .entry .slots) (l .at) (l .line .figures) (l .first) (l .k) ≡ Some (l .slots)

@@ -1,0 +1,12 @@
+use native.Mathlib.Omega.{arith}
+use lib.ListN.{length-set}
+use Rattle.bookfile.specs.Filed.{coefficient}
+use Rattle.bookfile.proofs.Filling.{filled-more, filled-all}
+use Rattle.bookfile.proofs.table.Table.coefficients.Needs as need
+
+pub loop-i-again : need.loop-i-again
+loop-i-again c =
+    (filled-more (coefficient (c .args .self .now)) (c .loop-i .coefficients) (c .loop-i .i) _ (omega arith) (λ t. record { 0 = c .figure .ensures t }) (c .loop-i .inv .0), simp length-set (c .loop-i .inv .1))
+
+pub returns : need.returns
+returns c = filled-all (coefficient (c .args .self .now)) (c .loop-i .coefficients) (c .loop-i .i) 8 (c .loop-i .inv .1) (omega arith) (c .loop-i .inv .0)
