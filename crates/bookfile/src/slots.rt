@@ -25,7 +25,7 @@ fn put(slots: &mut [Option<u64>], at: usize, line: &Line, i: usize) -> Result<()
 }
 
 /// Puts some of a line's figures to slots from one on.
-pub fn put_all(
+pub(crate) fn put_all(
     slots: &mut [Option<u64>],
     at: usize,
     line: &Line,

@@ -8,7 +8,7 @@ use super::Line;
 
 impl Line {
     /// A figure that is a whole number; 0 where it is not given.
-    pub fn whole(&self, i: usize) -> u64
+    pub(crate) fn whole(&self, i: usize) -> u64
         requires { ⌜ i < 11 ⌝ }
         ensures { λ r. ⌜ r ≡ whole-of (getD (now (self .entry) .figures) i None) ⌝ }
     {
@@ -16,7 +16,7 @@ impl Line {
     }
 
     /// A figure that is a change; 0 where it is not given.
-    pub fn change(&self, i: usize) -> i64
+    pub(crate) fn change(&self, i: usize) -> i64
         requires { ⌜ i < 11 ⌝ }
         ensures { λ r. ⌜ r ≡ change-of (getD (now (self .entry) .figures) i None) ⌝ }
     {

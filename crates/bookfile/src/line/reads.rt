@@ -18,7 +18,7 @@ use std::str::SplitWhitespace;
 
 impl Line {
     /// Reads a line; one that is empty or a comment says nothing.
-    pub fn read(line: &str) -> Result<Option<Line>, Malformed>
+    pub(crate) fn read(line: &str) -> Result<Option<Line>, Malformed>
         ensures { λ r. ⌜ made r (λ o. Cases o (Silent (now (line .entry))) (λ l. Speaks (now (line .entry)) (l .statement) (l .figures))) ⌝ }
     {
         let mut words = before_comment(line).split_whitespace();

@@ -20,7 +20,7 @@ use units::amounts::VolumePrice;
 
 impl Table {
     /// The table's figures; one that is not given is 0.
-    pub fn filed(&self) -> TariffFigures
+    pub(crate) fn filed(&self) -> TariffFigures
         ensures { λ r. ⌜ r ≡ filed (now (self .entry)) ⌝ }
     {
         TariffFigures {

@@ -28,7 +28,7 @@ pub struct Span {
 
 impl Table {
     /// A table without figures.
-    pub fn new() -> Table
+    pub(crate) fn new() -> Table
         ensures { λ r. ⌜ r ≡ empty-table ⌝ }
     {
         Table {
@@ -38,7 +38,7 @@ impl Table {
     }
 
     /// Takes the figures of a statement on the table; of another statement it takes none.
-    pub fn put(&mut self, line: &Line) -> Result<(), Malformed>
+    pub(crate) fn put(&mut self, line: &Line) -> Result<(), Malformed>
         ensures { λ r. ⌜ Cases r (λ _. table-after (now (line .entry) .statement) (now (line .entry) .figures) (now (self .entry)) ≡ Some (now (self .exit))) (λ _. table-after (now (line .entry) .statement) (now (line .entry) .figures) (now (self .entry)) ≡ None) ⌝ }
     {
         let Some(span) = line_span(line, self.brackets) else {
