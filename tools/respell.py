@@ -3,9 +3,9 @@
 
 usage: python3 tools/respell.py [--list]    at the top of the repository, once, after the kit's port.py
 
-A name that specs/ or proofs/ declares with dashes gets underscores; the three sums get their letter after an underscore, and
-a dash stays where it joins such a sum to a word, as the library joins two names. Names that Rattle makes, functions of src/,
-strings, comments of src/, inputs and outputs stay. It stops where two names would fall together.
+A name that specs/ or proofs/ declares with dashes gets underscores, and the three sums get their letter after an underscore.
+Names that Rattle makes, functions of src/, strings, comments of src/, inputs and outputs stay. It stops where two names would
+fall together.
 """
 
 import glob
@@ -46,7 +46,7 @@ def respelled(name):
         if name == old:
             return new
         if name.startswith(old + "-"):
-            return new + "-" + name[len(old) + 1:].replace("-", "_")
+            name = new + name[len(old):]
     return name.replace("-", "_")
 
 
