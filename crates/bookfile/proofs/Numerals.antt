@@ -1,5 +1,5 @@
 -- A number in plain digits.
-use Rattle.std.proofs.Common.{◌≡◌, ℕ, false, List, get_or, ℤ, Ok, Err, Option, Result, MatchOption}
+use Rattle.std.proofs.Common.{◌≡◌, ℕ, List, get_or, ℤ, Ok, Err, Option, Result, MatchOption}
 use mir.Syntax.{w128}
 use Rattle.std.specs.Str.Parse.{ParsesSigned, signed_digits_value}
 use Rattle.std.specs.Result.{result_ok}

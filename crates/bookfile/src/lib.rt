@@ -1,11 +1,11 @@
 // The book file: its syntax, and what a file says.
+#![tactic(auto)]
+
 pub mod calls;
 pub mod file;
-mod filing;
 mod line;
 pub mod malformed;
 pub mod naming;
-pub mod rule;
 mod slots;
 pub mod statement;
 mod table;

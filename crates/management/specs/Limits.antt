@@ -1,5 +1,5 @@
 -- That no rule answers more than 10^9: no definition, only the facts that the rules' ghost members cite.
-use Rattle.std.specs.Prelude.{◌≡◌, ℕ, ◌+◌, ◌-◌, ◌≤◌, false, cond, List, is_some, ◌==◌, nat_le, slice_index_or, refl}
+use Rattle.std.specs.Prelude.{◌≡◌, ℕ, ◌+◌, ◌-◌, ◌≤◌, false, List, is_some, ◌==◌, nat_le, slice_index_or, refl}
 use Rattle.std.proofs.Common.{mul-le-mul_right, arith}
 use Rattle.std.proofs.lemmas.Bool.{leb-true, cond_both}
 use Rattle.limits.specs.First.{point_price_fits, first_beyond}

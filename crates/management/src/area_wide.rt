@@ -1,8 +1,7 @@
 // The area-wide rule: the large price, reached in steps by award year where the company is not large.
 ghost use Rattle.std.specs.Prelude.{◌≡◌};
 ghost use Rattle.management.specs.Limits.{area_wide_limited};
-ghost use Rattle.limits.specs.Checked.{made_of};
-ghost use Rattle.management.specs.Prices.{checked};
+ghost use Rattle.management.specs.Prices.{checked, prices_of};
 ghost use Rattle.management.specs.Rules.{area_wide_price};
 
 use crate::prices::Prices;
@@ -21,7 +20,7 @@ pub struct AreaWide {
 impl AreaWide {
     /// The area-wide rule of these prices, unless one is beyond the limit: the refusal names the first such.
     pub fn new(prices: [PointPrice; 9]) -> Result<AreaWide, Refusal>
-        ensures { made_of (λ a. a.prices.list) result ≡ checked prices }
+        ensures { prices_of (λ a. a.prices.list) result ≡ checked prices }
     {
         Ok(AreaWide {
             prices: Prices::new(prices)?,

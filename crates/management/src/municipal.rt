@@ -1,8 +1,7 @@
 // The municipal rule: the price of the company's own size.
 ghost use Rattle.std.specs.Prelude.{◌≡◌};
 ghost use Rattle.management.specs.Limits.{municipal_limited};
-ghost use Rattle.limits.specs.Checked.{made_of};
-ghost use Rattle.management.specs.Prices.{checked};
+ghost use Rattle.management.specs.Prices.{checked, prices_of};
 ghost use Rattle.management.specs.Rules.{municipal_price};
 
 use crate::prices::Prices;
@@ -20,7 +19,7 @@ pub struct Municipal {
 impl Municipal {
     /// The municipal rule of these prices, unless one is beyond the limit: the refusal names the first such.
     pub fn new(prices: [PointPrice; 9]) -> Result<Municipal, Refusal>
-        ensures { made_of (λ m. m.prices.list) result ≡ checked prices }
+        ensures { prices_of (λ m. m.prices.list) result ≡ checked prices }
     {
         Ok(Municipal {
             prices: Prices::new(prices)?,

@@ -1,8 +1,7 @@
 // Nine prices within their limit: for each size, small first, one for each density.
 ghost use Rattle.std.specs.Prelude.{◌≡◌, ◌≤◌, false, length, is_some};
 ghost use Rattle.limits.specs.First.{point_price_fits, first_beyond};
-ghost use Rattle.limits.specs.Checked.{made_of};
-ghost use Rattle.management.specs.Prices.{checked, price_of};
+ghost use Rattle.management.specs.Prices.{checked, prices_of, price_of};
 
 use crate::size::Size;
 use crate::traits::Traits;
@@ -20,7 +19,7 @@ pub struct Prices {
 impl Prices {
     /// These prices, unless one is beyond the limit: the refusal names the first such.
     pub fn new(list: [PointPrice; 9]) -> Result<Prices, Refusal>
-        ensures { made_of (λ p. p.list) result ≡ checked list }
+        ensures { prices_of (λ p. p.list) result ≡ checked list }
     {
         match first_beyond(1, &list) {
             None => Ok(Prices { list }),

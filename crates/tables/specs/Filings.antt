@@ -1,12 +1,16 @@
 -- What is wrong with the figures of a locality, and which row counts as one.
 use Rattle.std.specs.Prelude.{ℕ, ◌+◌, ◌≤◌, Bool, not, ◌&&◌, List, [], ◌∷◌, is_some, Some, None, Option, ◌==◌, nat_le, slice_index_or}
-use Rattle.limits.specs.First.{among, unless, first_of}
+use Rattle.limits.specs.First.{unless, first_of}
 use Rattle.units.specs.declared.refusal.Refusal.{Refusal}
 use Rattle.units.specs.declared.refusal.Reason.TheVariants.{FigureLimit, FiguresAtOdds}
 use Rattle.tables.specs.declared.rows.AssetRow.{AssetRow}
 use Rattle.tables.specs.declared.rows.LocalityRow.{LocalityRow}
 use Rattle.tables.specs.declared.test.Test.{Test}
 use Rattle.tables.specs.declared.test.Test.TheVariants.{Limits, Odds}
+
+-- n is one of 1 to most
+abbrev pub among : ℕ → ℕ → Bool
+among most n = nat_le 1 n && nat_le n most
 
 -- no figure of an asset row exceeds 10^10 cents
 abbrev pub asset_fits : ℕ → Bool

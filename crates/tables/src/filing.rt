@@ -1,12 +1,18 @@
 // What filed figures of a locality meet.
 ghost use Rattle.std.specs.Prelude.{◌≡◌, ◌+◌, ◌≤◌, ◌&&◌, length, nat_le};
-ghost use Rattle.tables.specs.Filings.{row_fault, rows_fault, limit_fault, change_fault, odds_fault, filing_fault, locality_stands};
+ghost use Rattle.tables.specs.Filings.{among, row_fault, rows_fault, limit_fault, change_fault, odds_fault, filing_fault, locality_stands};
 ghost use Rattle.tables.specs.declared.test.Test.TheVariants.{Limits, Odds};
 
 use crate::rows::{AssetRow, LocalityRow};
 use crate::test::Test;
-use limits::{among, first_of, unless};
+use limits::{first_of, unless};
 use units::refusal::{Reason, Refusal};
+
+fn among(most: u64, n: u64) -> bool
+    ensures { result ≡ among most n }
+{
+    1 <= n && n <= most
+}
 
 // A row's figures against their limit.
 fn limit_of_row(n: u64, a: &AssetRow) -> Option<u64>

@@ -4,7 +4,6 @@ ghost use Rattle.tables.specs.PointRows.{point_stands};
 
 use crate::rows::PointRow;
 
-pub mod bills;
 pub mod makes;
 
 #[derive(Clone, Copy)]

@@ -1,11 +1,11 @@
 -- A table with no bad figure keeps every limit, and one that keeps every limit has no bad figure.
-use Rattle.std.proofs.Common.{◌≡◌, ℕ, zero, suc, ◌+◌, ◌-◌, ◌*◌, ◌<◌, ◌≤◌, Bool, true, false, cond, ◌&&◌, ◌||◌, eqb, ltb, leb, ◌⊎◌, List, [], ◌∷◌, length, get_or, is_some, Some, None, Option, sym, refl, ap, ◌∙◌, inl, inr, ⊎_elim, arith, length-take}
-use Rattle.std.proofs.lemmas.Bool.{and_parts, and_from, or_cases, or_left, or_right, leb-true, ltb-true, eqb-true, le-leb, lt-ltb, eq-eqb, cond-true, false≢true}
+use Rattle.std.proofs.Common.{◌≡◌, ℕ, zero, suc, ◌+◌, ◌*◌, ◌<◌, true, false, eqb, ltb, leb, ◌⊎◌, List, [], ◌∷◌, length, get_or, is_some, Some, Option, sym, refl, ap, ◌∙◌, inl, inr, ⊎_elim, arith}
+use Rattle.std.proofs.lemmas.Bool.{and_parts, and_from, or_cases, or_left, or_right, leb-true, ltb-true, eqb-true, le-leb, lt-ltb, eq-eqb, cond-true}
 use Rattle.tariff.specs.declared.figures.Bracket.{Bracket}
 use Rattle.tariff.specs.declared.figures.TariffFigures.{TariffFigures}
-use Rattle.limits.specs.First.{point_price_fits, volume_price_fits, unless, first_beyond, first_of}
+use Rattle.limits.specs.First.{point_price_fits, volume_price_fits, first_of}
 use Rattle.limits.proofs.Firsts.{none_at, goes_on, fits_of, fits_at, none_cons, none_unless, none_beyond}
-use Rattle.tariff.specs.Limits.{days_fit, commercial_fits, count_fits, coefficient_fits, rate_fits, life_fits, reference_fits, first_bad_end, brackets_of, components_of, costs_of, no_bracket, end_at, fixed_tests, variable_tests, cost_tests, first_bad_figure, Within}
+use Rattle.tariff.specs.Limits.{days_fit, commercial_fits, count_fits, coefficient_fits, rate_fits, life_fits, reference_fits, first_bad_end, brackets_of, components_of, costs_of, no_bracket, fixed_tests, variable_tests, cost_tests, first_bad_figure, Within}
 
 rises_at : (n : ℕ) (bs : List Bracket) → is_some (first_bad_end n bs) ≡ false → (i : ℕ) → suc i < length bs → (get_or bs i no_bracket).end < (get_or bs (suc i) no_bracket).end
 rises_at n [] h i l = absurd (omega arith)

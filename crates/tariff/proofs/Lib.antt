@@ -1,4 +1,3 @@
 pub mod Firsts
 pub mod Lawful
 pub mod Charging
-pub mod Nearing

@@ -27,7 +27,7 @@ fn ask<M: Management>(rule: &M, points: u64, density: u64, year: u64) -> anyhow:
 
 fn refused(refusal: Refusal) -> anyhow::Error {
     let _ = refusal;
-    "a rule is refused".into()
+    anyhow!("a rule is refused")
 }
 
 fn municipal(prices: [PointPrice; 9], points: u64, density: u64, year: u64) -> anyhow::Result<u64> {

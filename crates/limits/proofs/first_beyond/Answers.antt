@@ -6,20 +6,20 @@ use Rattle.limits.proofs.first_beyond.Goals as goal
 pub loop-figure-init : goal.loop-figure-init
 loop-figure-init g c = λ h. (omega arith, refl)
 
-pub returns-then-not-is-within : goal.returns-then-not-is-within
-returns-then-not-is-within g c =
+pub returns-then-not-is_within : goal.returns-then-not-is_within
+returns-then-not-is_within g c =
     λ h.
-    sym (beyond_bad g.F.Limited.fits c.loop-figure.number c.args.list.now c.loop-figure.figure-index c.figure-item.result (omega arith) c.figure-item.is (sym c.if-not-is-within.ensures))
+    sym (beyond_bad g.F.Limited.fits c.loop-figure.number c.args.list.now c.loop-figure.figure-index c.figure-item.result (omega arith) c.figure-item.is (sym c.if-not-is_within.ensures))
     ∙ (c.loop-figure.invariant h).1
 
 pub loop-figure-preserved : goal.loop-figure-preserved
 loop-figure-preserved g c =
     λ h.
     let p = c.loop-figure.invariant h in
-    let next : c.saturating-add-number.result ≡ c.loop-figure.number + 1 = omega (arith, p.0) in (
+    let next : c.saturating_add-number.result ≡ c.loop-figure.number + 1 = omega (arith, p.0) in (
       omega (arith, p.0),
       ap (λ (n : ℕ). first_beyond g.F.Limited.fits n (drop (c.loop-figure.figure-index + 1) c.args.list.now)) next
-          ∙ sym (beyond_good g.F.Limited.fits c.loop-figure.number c.args.list.now c.loop-figure.figure-index c.figure-item.result (omega arith) c.figure-item.is (sym c.if-not-is-within.ensures))
+          ∙ sym (beyond_good g.F.Limited.fits c.loop-figure.number c.args.list.now c.loop-figure.figure-index c.figure-item.result (omega arith) c.figure-item.is (sym c.if-not-is_within.ensures))
           ∙ p.1,
     )
 

@@ -5,4 +5,4 @@ use Rattle.tables.proofs.assets.depreciation_of.Goals as goal
 pub returns : goal.returns
 returns c =
     let s = rounded_at_most_whole (c.args.a.now.gross - c.args.a.now.contributions) c.args.life.0 in
-    record { value = c.round-half-up.ensures; small = omega (arith, c.round-half-up.ensures, s, c.requires.gross) }
+    record { value = c.round_half_up.ensures; small = omega (arith, c.round_half_up.ensures, s, c.requires.gross) }

@@ -6,9 +6,9 @@ use Rattle.tables.proofs.assets.return_of.Goals as goal
 
 pub returns : goal.returns
 returns c =
-    let b = mul-le-mul c.invested-by.ensures.small c.requires.1.1 in
-    let s = rounded_at_most (c.invested-by.result * c.args.rate.0) 10000000 32256000000 (omega (arith, b)) in
+    let b = mul-le-mul c.invested_by.ensures.small c.requires.1.1 in
+    let s = rounded_at_most (c.invested_by.result * c.args.rate.0) 10000000 32256000000 (omega (arith, b)) in
     record {
-      value = c.round-half-up.ensures ∙ ap (λ (n : ℕ). rounded (over (n * c.args.rate.0) 10000000)) c.invested-by.ensures.value;
-      small = omega (arith, c.round-half-up.ensures, s);
+      value = c.round_half_up.ensures ∙ ap (λ (n : ℕ). rounded (over (n * c.args.rate.0) 10000000)) c.invested_by.ensures.value;
+      small = omega (arith, c.round_half_up.ensures, s);
     }

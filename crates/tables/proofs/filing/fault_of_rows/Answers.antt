@@ -7,16 +7,16 @@ use Rattle.tables.proofs.filing.fault_of_rows.Goals as goal
 abbrev none : AssetRow
 none = record { gross = 0; net = 0; works = 0; contributions = 0; remaining = 0 }
 
-pub returns-then-is-some : goal.returns-then-is-some
-returns-then-is-some c =
-    let e = c.fault-of-row-fault.ensures in
-    let h : is_some (row_fault c.args.test c.loop-a.n (get_or c.args.rows.now c.loop-a.a-index none)) ≡ true = sym (ap is_some e) ∙ sym c.if-is-some.ensures in
+pub returns-then-is_some : goal.returns-then-is_some
+returns-then-is_some c =
+    let e = c.fault_of_row-fault.ensures in
+    let h : is_some (row_fault c.args.test c.loop-a.n (get_or c.args.rows.now c.loop-a.a-index none)) ≡ true = sym (ap is_some e) ∙ sym c.if-is_some.ensures in
     e ∙ sym (fault_here c.args.test c.loop-a.n c.args.rows.now c.loop-a.a-index none (omega arith) h) ∙ c.loop-a.invariant.1
 
 pub loop-a-preserved : goal.loop-a-preserved
 loop-a-preserved c =
-    let e = c.fault-of-row-fault.ensures in
-    let h : is_some (row_fault c.args.test c.loop-a.n (get_or c.args.rows.now c.loop-a.a-index none)) ≡ false = sym (ap is_some e) ∙ sym c.if-is-some.ensures in
+    let e = c.fault_of_row-fault.ensures in
+    let h : is_some (row_fault c.args.test c.loop-a.n (get_or c.args.rows.now c.loop-a.a-index none)) ≡ false = sym (ap is_some e) ∙ sym c.if-is_some.ensures in
     (omega arith, sym (fault_later c.args.test c.loop-a.n c.args.rows.now c.loop-a.a-index none (omega arith) h) ∙ c.loop-a.invariant.1)
 
 pub returns : goal.returns

@@ -1,4 +1,3 @@
-use Rattle.std.proofs.Common.{◌≡◌}
 use Rattle.bookfile.proofs.table.Table.filed.Goals as goal
 
 pub returns : goal.returns

@@ -5,4 +5,4 @@ use Rattle.tables.proofs.locality.costs.for_points.Goals as goal
 pub returns : goal.returns
 returns c =
     let s = rounded_at_most (c.args.price * c.args.points) 10000 2000000000000 (omega (arith, mul-le-mul c.requires.0 c.requires.1)) in
-    record { value = c.round-half-up.ensures; small = omega (arith, c.round-half-up.ensures, s) }
+    record { value = c.round_half_up.ensures; small = omega (arith, c.round_half_up.ensures, s) }

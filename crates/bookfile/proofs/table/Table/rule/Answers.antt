@@ -1,5 +1,0 @@
-use Rattle.std.proofs.Common.{◌≡◌}
-use Rattle.bookfile.proofs.table.Table.rule.Goals as goal
-
-pub returns : goal.returns
-returns c = cc

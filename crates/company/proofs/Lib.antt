@@ -1,2 +1,0 @@
-pub mod Lawful
-pub mod Bounds

@@ -1,2 +1,0 @@
-pub mod Terms
-pub mod Instalments

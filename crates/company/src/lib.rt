@@ -1,4 +1,0 @@
-// The companies of a book: the terms that they register.
-pub mod figures;
-pub mod instalment;
-pub mod terms;

@@ -1,5 +1,0 @@
-// The journal of a book: its entries, what a journal of them is, and two kinds of it.
-pub mod entry;
-pub mod kept;
-pub mod lent;
-pub mod own;

@@ -1,4 +1,0 @@
-pub mod Owners
-pub mod Billed
-pub mod Served
-pub mod Recognised

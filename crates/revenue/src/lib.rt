@@ -1,5 +1,0 @@
-// What a company's points are charged, how many of them it served, and the revenue that is recognised to it.
-pub mod costs;
-pub mod lent;
-pub mod parts;
-pub mod served;

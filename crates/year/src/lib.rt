@@ -1,3 +1,0 @@
-// The year of a book file: its companies, localities and points, the calls that write them, and what revenue takes of a company.
-pub mod calls;
-pub mod costs;
