@@ -2,7 +2,7 @@
 use Rattle.std.proofs.Common.{◌≡◌, ℕ, ◌+◌, ◌<◌, ◌≤◌, List, [], ◌∷◌, ◌++◌, length, IfSome, Some, None, vec_items, Option, sym, refl, ap, ◌∙◌, subst, inl, inr, append_assoc, append-nil, arith}
 use Rattle.std.proofs.ByRecursion.{All-append}
 use Rattle.std.specs.Str.Lines.{IsFirstLine as Row}
-use Rattle.std.specs.List.{AllByRecursion as All}
+use Rattle.std.specs.List.{AllByRecursion}
 use Rattle.bookfile.specs.declared.calls.Call.{Call}
 use Rattle.bookfile.specs.declared.file.BookFile.{BookFile}
 use Rattle.bookfile.specs.declared.file.NumberedCall.{NumberedCall}
@@ -42,7 +42,7 @@ pub record SoFar (text : List ℕ) (read : ℕ) (rest : List ℕ) (t : Table) (c
   pub carries : (rows : List (List ℕ)) (more : List Numbered) → Rows rest rows → RowsSay (read + 1) rows more → (all : List (List ℕ)) × Rows text all × RowsSay 1 all (lines ++ more)
   pub puts : after_lines empty_table lines ≡ Some t
   pub calls : cs ≡ calls_of lines
-  pub sound : All (Sound text) cs
+  pub sound : AllByRecursion (Sound text) cs
   pub left : read + line_count rest ≡ line_count text
 
 pub at_start : (text rest : List ℕ) (t : Table) (cs : List NumberedCall) → rest ≡ text → t ≡ empty_table → cs ≡ [] → SoFar text 0 rest t cs
@@ -52,7 +52,7 @@ at_start text rest t cs whole empty none =
       carries = rw whole (λ rows more cut say. (rows, cut, say));
       puts = ap (λ u. Some u) (sym empty);
       calls = none;
-      sound = subst (All (Sound text)) (sym none) tt;
+      sound = subst (AllByRecursion (Sound text)) (sym none) tt;
       left = let e : line_count rest ≡ line_count text = ap line_count whole in omega arith;
     }
 
@@ -80,7 +80,7 @@ module _ {text : List ℕ} {read : ℕ} {rest : List ℕ} {t : Table} {cs : List
   here : LineOf text (read + 1)
   here = (omega arith, omega (arith, old.left, line_count_more rest row next item))
 
-  one_sound : (o : Option Call) → IfSome o Lawful → All (Sound text) (call_before (read + 1) o [])
+  one_sound : (o : Option Call) → IfSome o Lawful → AllByRecursion (Sound text) (call_before (read + 1) o [])
   one_sound None lawful = tt
   one_sound (Some call) lawful = ((here, lawful), tt)
 
@@ -92,7 +92,7 @@ module _ {text : List ℕ} {read : ℕ} {rest : List ℕ} {t : Table} {cs : List
         carries = λ rows more cut say. old.carries (row ∷ rows) more (next, item.0, item.2, cut) (inl (silent, say));
         puts = old.puts ∙ ap (λ v. Some v) (sym stays);
         calls = same ∙ old.calls;
-        sound = subst (All (Sound text)) (sym same) old.sound;
+        sound = subst (AllByRecursion (Sound text)) (sym same) old.sound;
         left = omega (arith, old.left, line_count_more rest row next item);
       }
   one_more o u ds (inr (line, says, put, call)) lawful e =
@@ -103,6 +103,6 @@ module _ {text : List ℕ} {read : ℕ} {rest : List ℕ} {t : Table} {cs : List
             rw append_assoc (old.carries (row ∷ rows) (x ∷ more) (next, item.0, item.2, cut) (inr (line, more, says, refl, say)));
         puts = after_lines_push empty_table old.lines x ∙ ap (λ p. and_then p (λ v. after_line v line)) old.puts ∙ put;
         calls = e ∙ ap (λ l. l ++ call_before (read + 1) o []) old.calls ∙ ap (λ p. calls_of old.lines ++ call_before (read + 1) p []) call ∙ sym (calls_push old.lines x);
-        sound = subst (All (Sound text)) (sym e) (All-append (Sound text) cs _ old.sound (one_sound o lawful));
+        sound = subst (AllByRecursion (Sound text)) (sym e) (All-append (Sound text) cs _ old.sound (one_sound o lawful));
         left = omega (arith, old.left, line_count_more rest row next item);
       }

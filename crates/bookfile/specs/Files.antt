@@ -1,7 +1,7 @@
 -- What reading a whole book file promises.
 use Rattle.std.specs.Prelude.{◌≡◌, ℕ, ◌+◌, ◌<◌, ◌≤◌, max, cond, ◌⊎◌, List, [], ◌∷◌, length, Some, None, vec_items, Option, ◌==◌}
 use Rattle.std.specs.Str.Lines.{IsFirstLine as Row}
-use Rattle.std.specs.List.{AllByRecursion as All}
+use Rattle.std.specs.List.{AllByRecursion}
 use Rattle.bookfile.specs.declared.calls.Call.{Call}
 use Rattle.bookfile.specs.declared.file.BookFile.{BookFile}
 use Rattle.bookfile.specs.declared.file.NumberedCall.{NumberedCall}
@@ -80,7 +80,7 @@ pub record Says (text : List ℕ) (book : BookFile) : Type 0 where
   pub puts : after_lines empty_table lines ≡ Some table
   pub tariff : book.tariff ≡ filed table
   pub calls : vec_items book.calls ≡ calls_of lines
-  pub sound : All (Sound text) (vec_items book.calls)
+  pub sound : AllByRecursion (Sound text) (vec_items book.calls)
 
 -- a malformed line is one of the text's
 abbrev pub Placed : List ℕ → Unread → Type 0

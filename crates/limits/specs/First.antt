@@ -1,5 +1,5 @@
 -- What the first bad one of numbered figures is.
-use Rattle.std.specs.Prelude.{ℕ, ◌+◌, Bool, cond, List, [], ◌∷◌, Some, None, Option, nat_le}
+use Rattle.std.specs.Prelude.{ℕ, ◌+◌, Bool, cond, ◌&&◌, List, [], ◌∷◌, Some, None, Option, nat_le}
 use Rattle.units.specs.declared.amounts.PointPrice.{PointPrice}
 use Rattle.units.specs.declared.amounts.VolumePrice.{VolumePrice}
 
@@ -10,6 +10,10 @@ point_price_fits p = nat_le p.0 1000000000
 -- a volume price is at most 10^8
 abbrev pub volume_price_fits : VolumePrice → Bool
 volume_price_fits p = nat_le p.0 100000000
+
+-- n is one of 1 to most
+abbrev pub among : ℕ → ℕ → Bool
+among most n = nat_le 1 n && nat_le n most
 
 -- figure n, if it is bad
 abbrev pub unless : Bool → ℕ → Option ℕ

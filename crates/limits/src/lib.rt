@@ -2,7 +2,7 @@
 #![tactic(auto)]
 
 ghost use Rattle.std.specs.Prelude.{◌≡◌, ◌+◌, ◌^◌, ◌<◌, Bool, length};
-ghost use Rattle.limits.specs.First.{point_price_fits, volume_price_fits, unless, first_beyond, first_of};
+ghost use Rattle.limits.specs.First.{point_price_fits, volume_price_fits, among, unless, first_beyond, first_of};
 
 use units::amounts::{PointPrice, VolumePrice};
 
@@ -28,6 +28,13 @@ impl Limited for VolumePrice {
     fn is_within(&self) -> bool {
         self.0 <= 100_000_000
     }
+}
+
+/// Whether a number is one of 1 to `most`.
+pub fn among(most: u64, n: u64) -> bool
+    ensures { result ≡ among most n }
+{
+    1 <= n && n <= most
 }
 
 /// The number of a figure that does not fit.

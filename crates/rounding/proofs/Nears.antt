@@ -1,10 +1,11 @@
 -- Nearness adds up: over sums, differences and lists.
-use Rattle.std.proofs.Common.{ℕ, ◌+◌, ◌*◌, ◌≤◌, List, [], ◌∷◌, ℤ, pos, ◌+ℤ◌, ◌-ℤ◌, ◌*ℤ◌, neg_ℤ, ap, mul-le-mul_right, arith}
+use Rattle.std.proofs.Common.{◌≡◌, ℕ, zero, suc, ◌+◌, ◌*◌, ◌≤◌, Bool, true, false, cond, List, [], ◌∷◌, ℤ, pos, ◌+ℤ◌, ◌-ℤ◌, ◌*ℤ◌, neg_ℤ, ◌≤ℤ◌, refl, ap, subst, mul-le-mul_right, mul-le-mul_left, arith}
 use native.Mathlib.Nat.{le_of_mul-le-mul_left}
 use borrow.Author.Differences.{ints, up, down, sum_is_lem, product_is, neg_is}
 use Rattle.rounding.specs.Frac.{Frac, whole, plus, minus, Same}
 use Rattle.rounding.specs.Nearness.{Near}
-use Rattle.rounding.specs.Sums.{sum_n, sum_z, sum_q}
+use Rattle.rounding.specs.Sums.{sum_n, sum_z, sum_q, sum_if, count_if, exact_sum_if}
+use Rattle.rounding.proofs.SumLaws.{sum_z_pos, sum_n_times}
 
 pub near_whole : (z : ℤ) → Near (whole z) z 0
 near_whole z = record { above = omega (arith, ints); below = omega (arith, ints) }
@@ -53,6 +54,19 @@ near_more x a m n l p =
 pub near_sum : {X : Type 0} (f : X → Frac) (g : X → ℤ) (k : X → ℕ) → ((x : X) → Near (f x) (g x) (k x)) → (xs : List X) → Near (sum_q f xs) (sum_z g xs) (sum_n k xs)
 near_sum f g k h [] = near_whole (pos 0)
 near_sum f g k h (x ∷ xs) = near_add (f x) (sum_q f xs) (g x) (sum_z g xs) (k x) (sum_n k xs) (h x) (near_sum f g k h xs)
+
+-- figures of those elements that pass a test, k roundings each
+near_if : (own : Bool) (x : Frac) (n k : ℕ) → Near x (pos n) k → Near (cond own x (whole (pos 0))) (pos (cond own n 0)) (k * cond own 1 0)
+near_if true x n k p = near_more x (pos n) k (k * 1) (omega arith) p
+near_if false x n k p = near_more (whole (pos 0)) (pos 0) 0 (k * 0) (omega arith) (near_whole (pos 0))
+
+pub near_sum_if : {X : Type 0} (own : X → Bool) (f : X → Frac) (g : X → ℕ) (k : ℕ) → ((x : X) → Near (f x) (pos (g x)) k) → (xs : List X) → Near (exact_sum_if own f xs) (pos (sum_if own g xs)) (k * count_if own xs)
+near_sum_if {X} own f g k h xs =
+    let all = near_sum (λ x. cond (own x) (f x) (whole (pos 0))) (λ x. pos (cond (own x) (g x) 0)) (λ x. k * cond (own x) 1 0) (λ x. near_if (own x) (f x) (g x) k (h x)) xs in
+    let amounts = sum_z_pos (λ x. cond (own x) (g x) 0) xs in
+    let counts = sum_n_times k (λ x. cond (own x) 1 0) xs in
+    subst (λ (n : ℕ). Near (exact_sum_if own f xs) (pos (sum_if own g xs)) n) counts
+    (subst (λ (z : ℤ). Near (exact_sum_if own f xs) z (sum_n (λ x. k * cond (own x) 1 0) xs)) amounts all)
 
 -- the same value in another fraction is as near
 pub near_same : (x y : Frac) (a : ℤ) (n : ℕ) → Same x y → Near x a n → Near y a n

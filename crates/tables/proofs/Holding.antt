@@ -1,12 +1,14 @@
 -- A row that stands keeps every limit.
-use Rattle.std.proofs.Common.{◌≡◌, ℕ, zero, suc, ◌+◌, true, false, not, ◌&&◌, leb, List, [], ◌∷◌, get_or, take, drop, is_some, Some, None, Option, sym, refl, arith}
+use Rattle.std.proofs.Common.{◌≡◌, ℕ, zero, suc, ◌+◌, ◌≤◌, Bool, true, false, not, ◌&&◌, leb, List, [], ◌∷◌, get_or, take, drop, is_some, Some, None, Option, sym, refl, ◌∙◌, arith}
 use Rattle.std.proofs.lemmas.Bool.{and_parts, leb-true, not-true, false≢true}
-use Rattle.limits.specs.First.{unless}
+use Rattle.limits.specs.First.{unless, first_of}
 use Rattle.limits.proofs.Firsts.{none_at, fits_of}
 use Rattle.tables.specs.declared.rows.AssetRow.{AssetRow}
 use Rattle.tables.specs.declared.rows.LocalityRow.{LocalityRow}
+use Rattle.tables.specs.declared.rows.PointRow.{PointRow}
 use Rattle.tables.specs.declared.test.Test.{Test}
 use Rattle.tables.specs.declared.test.Test.TheVariants.{Limits, Odds}
+use Rattle.tables.specs.PointRows.{point_stands, PointHeld}
 use Rattle.tables.specs.Filings.{among, asset_fits, row_fault, rows_fault, limit_fault, odds_fault, change_fault, fault_of, filing_fault, locality_stands, no_asset, AssetHeld, AllHeld, Held}
 
 no_fault : (limit odds : Option ℕ) → is_some (fault_of limit odds) ≡ false → (is_some limit ≡ false) × (is_some odds ≡ false)
@@ -60,6 +62,22 @@ held l h =
           let fits = row_good Limits (λ m. refl) 5 l.rows (limits 4) i in
           let even = row_good Odds (λ m. refl) 5 l.rows (odds 1) i in
           asset_held (get_or l.rows i no_asset) fits.0 even.0 fits.1 even.1;
+    }
+
+pub point_held : (p : PointRow) → point_stands p ≡ true → PointHeld p
+unfolding point_stands
+point_held p h =
+    let days = and_parts (leb p.locality 255 && leb 1 p.class && leb p.class 3 && leb p.domestic 1 && leb p.volume 1000000000) (leb p.days 366) h in
+    let volume = and_parts (leb p.locality 255 && leb 1 p.class && leb p.class 3 && leb p.domestic 1) (leb p.volume 1000000000) days.0 in
+    let domestic = and_parts (leb p.locality 255 && leb 1 p.class && leb p.class 3) (leb p.domestic 1) volume.0 in
+    let most = and_parts (leb p.locality 255 && leb 1 p.class) (leb p.class 3) domestic.0 in
+    let least = and_parts (leb p.locality 255) (leb 1 p.class) most.0 in
+    record {
+      locality = leb-true _ _ least.0;
+      class = (leb-true _ _ least.1, leb-true _ _ most.1);
+      domestic = leb-true _ _ domestic.1;
+      volume = leb-true _ _ volume.1;
+      days = leb-true _ _ days.1;
     }
 
 -- ---- A part of rows that are held

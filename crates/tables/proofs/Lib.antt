@@ -3,3 +3,4 @@ pub mod Holding
 pub mod Reading
 pub mod Depreciating
 pub mod Nearing
+pub mod Pasts

@@ -4,3 +4,4 @@ pub mod PointRows
 pub mod Records
 pub mod Costs
 pub mod Blank
+pub mod Lookups

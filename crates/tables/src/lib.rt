@@ -5,6 +5,7 @@ mod assets;
 pub mod blank;
 pub mod filing;
 pub mod locality;
+pub mod lookup;
 pub mod point;
 pub mod rows;
 pub mod service;

@@ -4,6 +4,7 @@ ghost use Rattle.tables.specs.PointRows.{point_stands};
 
 use crate::rows::PointRow;
 
+pub mod bills;
 pub mod makes;
 
 #[derive(Clone, Copy)]

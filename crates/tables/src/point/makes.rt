@@ -1,6 +1,6 @@
 // How a point is made: from a row that stands, and from no other.
-ghost use Rattle.std.specs.Prelude.{◌≡◌, Some};
-ghost use Rattle.tables.specs.PointRows.{point_stands};
+ghost use Rattle.std.specs.Prelude.{◌≡◌, false, Some, MatchOption};
+ghost use Rattle.tables.specs.PointRows.{point_stands, PointHeld};
 ghost use Rattle.tables.specs.Records.{point_of};
 
 use crate::point::Point;
@@ -20,7 +20,8 @@ impl PointRow {
 
     /// The point that stands in the row; a blank row has none.
     pub fn point(&self) -> Option<Point>
-        ensures { result ≡ point_of self.now }
+        ensures value { result ≡ point_of self.now }
+        ensures row { MatchOption result (point_stands self.now ≡ false) (λ p. p.row ≡ self.now) }
     {
         if self.stands() {
             Some(Point { row: *self })
@@ -35,6 +36,7 @@ impl Point {
     pub fn row(&self) -> PointRow
         ensures value { result ≡ self.now.row }
         ensures back { point_of result ≡ Some self.now }
+        ensures held { PointHeld result }
     {
         self.row
     }
