@@ -1,0 +1,10 @@
+use Rattle.std.proofs.Common.{arith, rules}
+use Rattle.std.proofs.lemmas.Option.{slice_get-get_or, slice_get_past}
+use Rattle.std.proofs.lemmas.List.{length-take, get_or-take}
+use Rattle.journal.proofs.own.acts.OwnJournalJournal.get.Goals as goal
+
+pub returns-then-place-self : goal.returns-then-place-self
+returns-then-place-self c = grind (arith, slice_get-get_or, length-take, get_or-take)
+
+pub returns-else-place-self : goal.returns-else-place-self
+returns-else-place-self c = grind (arith, slice_get_past, length-take)

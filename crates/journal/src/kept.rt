@@ -1,0 +1,36 @@
+// What a journal is: a list of entries, and a capacity that bounds it and stays.
+ghost use Rattle.std.specs.Prelude.{◌≡◌, ℕ, ◌≤◌, List, length};
+ghost use Rattle.journal.specs.declared.entry.Entry.{Entry};
+ghost use Rattle.journal.specs.Appending.{append_answer, appended};
+ghost use Rattle.std.specs.List.{slice_get};
+
+use crate::entry::Entry;
+use units::refusal::Refusal;
+
+pub trait Journal {
+    // The entries, the first first.
+    ghost entries: { Self → List Entry };
+
+    // How many entries it can hold.
+    ghost room: { Self → ℕ };
+
+    ghost bounded: { (j : Self) → length (entries j) ≤ room j };
+
+    ghost small: { (j : Self) → room j ≤ 1048576 };
+
+    /// Adds an entry at the end, and alters no other; a full journal refuses by 16 with its length, and stays as it is.
+    fn append(&mut self, e: Entry) -> Result<(), Refusal>
+        ensures answer { result ≡ append_answer (room self.old) (entries self.old) }
+        ensures list { entries self.new ≡ appended (room self.old) (entries self.old) e }
+        ensures stays { room self.new ≡ room self.old };
+
+    fn len(&self) -> usize
+        ensures { result ≡ length (entries self.now) };
+
+    fn capacity(&self) -> usize
+        ensures { result ≡ room self.now };
+
+    /// The entry at a place, from 0; none past the end.
+    fn get(&self, place: usize) -> Option<Entry>
+        ensures { result ≡ slice_get (entries self.now) place };
+}

@@ -1,0 +1,7 @@
+// The journal of a book: its entries, what a journal of them is, and two kinds of it.
+#![tactic(auto)]
+
+pub mod entry;
+pub mod kept;
+pub mod lent;
+pub mod own;
