@@ -1,3 +1,4 @@
 pub mod Firsts
 pub mod Lawful
 pub mod Charging
+pub mod Nearing

@@ -1,0 +1,42 @@
+// Filing a locality.
+ghost use Rattle.std.specs.Prelude.{◌≡◌, ◌<◌, length, OnOk};
+ghost use Rattle.calls.specs.Decisions.{filing};
+
+use crate::places::{company_at, nothing, past};
+use company::terms::Terms;
+use tables::filing::filing_fault;
+use tables::lookup::locality_at;
+use tables::rows::LocalityRow;
+use units::refusal::Refusal;
+
+/// The row that is filed at a place, or the first refusal.
+pub fn filing(
+    companies: &[Option<Terms>; 16],
+    localities: &[LocalityRow],
+    place: u64,
+    row: LocalityRow,
+) -> Result<LocalityRow, Refusal>
+    ensures within { OnOk result (place < length localities.now) }
+    ensures answer { result ≡ filing companies.now localities.now place row }
+{
+    if localities.len() > 256 {
+        return Err(past(0));
+    }
+    if place >= localities.len() as u64 {
+        return Err(past(place));
+    }
+    if row.company >= 16 {
+        return Err(past(row.company));
+    }
+    if company_at(companies, row.company).is_none() {
+        return Err(nothing(row.company));
+    }
+    let old = match locality_at(localities, place) {
+        Some(locality) => Some(locality.row()),
+        None => None,
+    };
+    match filing_fault(&old, &row) {
+        Some(fault) => Err(fault),
+        None => Ok(row),
+    }
+}

@@ -1,0 +1,8 @@
+// What the calls of a book meet: what each is granted, or the first refusal that applies.
+#![tactic(auto)]
+
+pub mod billing;
+pub mod enrolling;
+pub mod filing;
+mod places;
+pub mod registering;

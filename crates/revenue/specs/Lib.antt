@@ -1,0 +1,4 @@
+pub mod Owners
+pub mod Billed
+pub mod Served
+pub mod Recognised

@@ -1,0 +1,17 @@
+// The two lent tables, neither longer than it may be.
+ghost use Rattle.std.specs.Prelude.{◌≤◌, length};
+
+use tables::rows::{LocalityRow, PointRow};
+
+pub mod makes;
+pub mod revenue;
+pub mod sums;
+
+/// The locality table, of at most 256 rows, and the point table, of at most 65,536.
+#[derive(Clone, Copy)]
+pub struct Tables<'a> {
+    pub(crate) localities: &'a [LocalityRow],
+    pub(crate) points: &'a [PointRow],
+    ghost few: { length localities.now ≤ 256 },
+    ghost many: { length points.now ≤ 65536 },
+}

@@ -1,0 +1,64 @@
+// The points that a company served, and the revenue that is recognised to it.
+ghost use Rattle.std.specs.Prelude.{◌≡◌, ◌+◌, ◌*◌, ◌≤◌, pos, if◌then◌else◌};
+ghost use Rattle.rounding.specs.Nearness.{Near};
+ghost use Rattle.rounding.specs.Sums.{count_if};
+ghost use Rattle.tables.specs.declared.state.State.TheVariants.{Regime, StartUp};
+ghost use Rattle.tables.specs.Costs.{locality_figure};
+ghost use Rattle.revenue.specs.Owners.{owns};
+ghost use Rattle.revenue.specs.Served.{served};
+ghost use Rattle.revenue.specs.Recognised.{locality_figures, total, recognised, exact_revenue};
+
+use crate::costs::Costs;
+use crate::lent::Tables;
+use crate::parts::Revenue;
+use crate::served::Served;
+use tables::rows::LocalityRow;
+use tariff::table::Tariff;
+
+// What a row of the locality table adds to a company's revenue.
+fn of_locality(tariff: &Tariff, company: u64, row: &LocalityRow) -> u64
+    ensures value { result ≡ (if owns company row.now then locality_figure tariff.now.figures row.now else 0) }
+    ensures small { result ≤ 5000000000000 }
+{
+    let Some(locality) = row.locality() else {
+        return 0;
+    };
+    if locality.row().company == company {
+        locality.figure(tariff)
+    } else {
+        0
+    }
+}
+
+impl<'a> Tables<'a> {
+    /// What the localities of a company add to its revenue.
+    pub fn locality_figures(self, tariff: &Tariff, company: u64) -> u64
+        ensures value { result ≡ locality_figures tariff.now.figures self.entry.localities.now company }
+        ensures small { result ≤ 1280000000000000 }
+    {
+        let mut sum = 0;
+        for row in self.localities {
+            sum += of_locality(tariff, company, row);
+        }
+        sum
+    }
+
+    /// The points that a company served, by the state of their localities.
+    pub fn served(self, tariff: &Tariff, company: u64) -> Served
+        ensures regime { result.regime.0 ≡ served tariff.now.figures self.entry.localities.now self.entry.points.now company Regime }
+        ensures startup { result.startup.0 ≡ served tariff.now.figures self.entry.localities.now self.entry.points.now company StartUp }
+    {
+        let sums = self.sums(tariff, company);
+        Served::of(tariff, sums.regime, sums.startup).unwrap()
+    }
+
+    /// The recognised revenue of a company, part by part. It is near its exact value by 12 halves of a cent for each of the company's
+    /// localities and 4 for itself.
+    pub fn revenue(self, tariff: &Tariff, costs: Costs, company: u64) -> Revenue
+        ensures value { result ≡ recognised tariff.now.figures costs.operating.0 costs.verification costs.central self.entry.localities.now self.entry.points.now company }
+        ensures near { Near (exact_revenue tariff.now.figures costs.operating.0 costs.verification costs.central self.entry.localities.now self.entry.points.now company) (pos (total result)) (12 * count_if (owns company) self.entry.localities.now + 4) }
+    {
+        let added = self.locality_figures(tariff, company);
+        self.served(tariff, company).revenue(tariff, costs, added)
+    }
+}

@@ -1,0 +1,38 @@
+// How served points are found from line 3.
+ghost use Rattle.std.specs.Prelude.{◌≡◌, ◌&&◌, is_some, IfSome};
+ghost use Rattle.std.specs.Option.{option_map};
+ghost use Rattle.revenue.specs.Served.{served_for, served_within};
+
+use crate::served::Served;
+use tariff::table::Tariff;
+use units::amounts::MilliPoints;
+
+// The points that so many cents of line 3 stand for, where a book can have so many.
+fn served_for(tariff: &Tariff, cents: u64) -> Option<MilliPoints>
+    ensures { option_map (λ n. n.0) result ≡ served_within tariff.now.figures cents }
+{
+    if cents > 6_571_556_864 {
+        return None;
+    }
+    let points = rounding::round_half_up(cents * 10_000_000, tariff.figures().commercial.0);
+    if points > 131_465_216 {
+        return None;
+    }
+    Some(MilliPoints(points))
+}
+
+impl Served {
+    /// The points that so many cents of line 3 stand for, in regime and in start-up; none where no book can have so many.
+    pub fn of(tariff: &Tariff, regime: u64, startup: u64) -> Option<Served>
+        ensures test { is_some result ≡ (is_some (served_within tariff.now.figures regime) && is_some (served_within tariff.now.figures startup)) }
+        ensures kept { IfSome result (λ s. (s.regime.0 ≡ served_for tariff.now.figures regime) × (s.startup.0 ≡ served_for tariff.now.figures startup)) }
+    {
+        let Some(regime) = served_for(tariff, regime) else {
+            return None;
+        };
+        let Some(startup) = served_for(tariff, startup) else {
+            return None;
+        };
+        Some(Served { regime, startup })
+    }
+}

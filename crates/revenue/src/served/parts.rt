@@ -1,0 +1,36 @@
+// The parts of recognised revenue by the points that were served.
+ghost use Rattle.std.specs.Prelude.{◌≡◌, ◌≤◌};
+ghost use Rattle.rounding.specs.Rounding.{rounded};
+ghost use Rattle.revenue.specs.Recognised.{exact_for_points, parts_at};
+
+use crate::costs::Costs;
+use crate::parts::Revenue;
+use crate::served::Served;
+use tariff::table::Tariff;
+
+// A price for thousandths of points, in cents.
+fn for_points(price: u64, points: u64) -> u64
+    requires { (price ≤ 2000000000) × (points ≤ 262930432) }
+    ensures { result ≡ rounded (exact_for_points price points) }
+{
+    rounding::round_half_up(price * points, 10_000_000)
+}
+
+impl Served {
+    /// The parts of the revenue of a company that served these points, to which its localities add so many cents.
+    pub fn revenue(self, tariff: &Tariff, costs: Costs, added: u64) -> Revenue
+        ensures { result ≡ parts_at tariff.now.figures costs.operating.0 costs.verification costs.central added self.regime.0 self.startup.0 }
+    {
+        let both = self.regime.0 + self.startup.0;
+        let t = tariff.figures();
+        Revenue {
+            localities: added,
+            operating: for_points(costs.operating.0, self.regime.0),
+            startup: for_points(t.avv.0, self.startup.0),
+            readings: for_points(t.ins.0 + t.rac.0, both),
+            commercial: for_points(t.commercial.0, both),
+            verification: costs.verification,
+            central: costs.central,
+        }
+    }
+}
