@@ -1,5 +1,5 @@
 -- What each call meets: what it is granted, or the first refusal that applies.
-use Rattle.std.specs.Prelude.{ℕ, ◌≤◌, Bool, not, ◌&&◌, List, length, ℤ, is_some, None, Ok, Option, Result, ◌==◌, nat_le, nat_lt, slice_index_or}
+use Rattle.std.specs.Prelude.{ℕ, Bool, not, ◌&&◌, List, length, ℤ, is_some, None, Ok, Option, Result, ◌==◌, nat_le, nat_lt, slice_index_or}
 use Rattle.units.specs.declared.refusal.Reason.TheVariants.{PastTable, PlaceTaken, FigureLimit}
 use Rattle.units.specs.declared.refusal.Refusal.{Refusal}
 use Rattle.limits.specs.First.{among}

@@ -1,8 +1,7 @@
 -- How the sums of a company change where one row of a table is replaced: by that row's share, and not at all for other companies.
-use Rattle.std.proofs.Common.{◌≡◌, ℕ, ◌+◌, ◌<◌, Bool, false, cond, ◌&&◌, eqb, ◌≢◌, List, length, get_or, set, sym, refl, ap, ◌∙◌, ⊎_elim, get_or-set_other, get_or-set_same}
+use Rattle.std.proofs.Common.{◌≡◌, ℕ, ◌+◌, ◌<◌, Bool, false, cond, ◌&&◌, eqb, List, length, get_or, set, sym, ap, ◌∙◌, ⊎_elim, get_or-set_other, get_or-set_same}
 use Rattle.std.proofs.lemmas.List.{set_past}
 use Rattle.std.proofs.lemmas.Bool.{and_right, cond-false, cases_lt, cases_eq}
-use Rattle.rounding.specs.Sums.{sum_n, sum_if, count_if}
 use Rattle.rounding.proofs.SumLaws.{sum_n_set, sum_n_same, sum_if_foreign}
 use Rattle.tariff.specs.declared.figures.TariffFigures.{TariffFigures}
 use Rattle.tables.specs.declared.rows.LocalityRow.{LocalityRow}

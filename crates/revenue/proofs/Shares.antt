@@ -1,5 +1,5 @@
 -- The points that a company can have served: no line 3 amount stands for more than 2.006 points, so that no product is too large.
-use Rattle.std.proofs.Common.{◌≡◌, ℕ, ◌+◌, ◌*◌, ◌≤◌, true, cond, ◌&&◌, eqb, leb, ◌⊎◌, List, length, is_some, Some, None, sym, ap, ◌∙◌, subst, inl, inr, mul-le-mul_right, mul-le-mul, mul-le-mul_left, arith}
+use Rattle.std.proofs.Common.{◌≡◌, ℕ, ◌*◌, ◌≤◌, true, cond, eqb, leb, ◌⊎◌, List, length, is_some, Some, None, sym, ap, ◌∙◌, subst, inl, inr, mul-le-mul_right, mul-le-mul_left, arith}
 use Rattle.std.proofs.lemmas.Bool.{and_parts, cond_both, cond-true, le-leb}
 use Rattle.rounding.proofs.HalfLaw.{rounded_twice, rounded_at_most}
 use Rattle.rounding.proofs.SumLaws.{sum_n_share}

@@ -6,14 +6,20 @@ mod compare;
 mod localities;
 mod numbers;
 mod rules;
+mod served;
 mod tariffs;
 mod year;
 
+use bills::BillLines;
+use localities::LocalityCosts;
+use served::ServedPoints;
+
 fn run(rt: &HostRuntime) -> anyhow::Result<()> {
     let _ = year::worked_year();
-    bills::run(rt)?;
+    compare::run(rt, &BillLines)?;
     bills::boundaries(rt)?;
-    localities::run(rt)?;
+    compare::run(rt, &LocalityCosts)?;
+    compare::run(rt, &ServedPoints)?;
     rules::run(rt)?;
     rules::boundaries(rt)
 }

@@ -3,7 +3,6 @@ use Rattle.std.specs.Prelude.{ℕ, List, Ok, Err, Result, slice_set}
 use Rattle.units.specs.declared.refusal.Refusal.{Refusal}
 use Rattle.tariff.specs.declared.bill.Bill.{Bill}
 use Rattle.tables.specs.declared.rows.PointRow.{PointRow}
-use Rattle.tables.specs.Blank.{no_point}
 
 -- what is granted is written at its place, and a refusal leaves every row
 abbrev pub written : {X Y : Type 0} → (X → Y) → List Y → ℕ → Result X Refusal → List Y

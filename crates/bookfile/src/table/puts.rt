@@ -1,8 +1,9 @@
 // Putting the figures of statements into the table.
 ghost use Rattle.std.specs.Prelude.{◌≡◌, ◌+◌, ◌≤◌, IfSome, Some, None, MatchResult};
-ghost use Rattle.bookfile.specs.Tables.{empty_table, span_of, table_after};
+ghost use Rattle.bookfile.specs.Grammar.{most_figures};
+ghost use Rattle.bookfile.specs.Tables.{empty_table, slot_count, span_of, table_after};
 
-use super::{BRACKETS, COEFFICIENTS, DISTRIBUTION, LIVES, METERING, Table};
+use super::{BRACKETS, COEFFICIENTS, DISTRIBUTION, LIVES, MANAGEMENT, METERING, SLOTS, Table};
 use crate::line::Line;
 use crate::malformed::Malformed;
 use crate::slots::put_all;
@@ -24,7 +25,7 @@ impl Table {
         ensures { result ≡ empty_table }
     {
         Table {
-            slots: [None; 91],
+            slots: [None; SLOTS],
             brackets: 0,
         }
     }
@@ -45,7 +46,7 @@ impl Table {
 // The span of a line, where the table has so many brackets; none for a ninth bracket.
 fn line_span(line: &Line, brackets: usize) -> Option<Span>
     ensures value { result ≡ span_of line.now.statement line.now.figures brackets }
-    ensures room { IfSome result (λ s. (s.slot + s.count ≤ 91) × (s.first + s.count ≤ 11)) }
+    ensures room { IfSome result (λ s. (s.slot + s.count ≤ slot_count) × (s.first + s.count ≤ most_figures)) }
 {
     let (first_slot, count) = match line.statement {
         Statement::Tariff => return Some(Span {
@@ -68,12 +69,20 @@ fn line_span(line: &Line, brackets: usize) -> Option<Span>
             });
         }
         Statement::Bracket => return None,
-        Statement::Point | Statement::Bill => return Some(Span {
-            slot: 0,
+        Statement::Management => return Some(Span {
+            slot: MANAGEMENT,
             first: 0,
-            count: 0,
+            count: 10,
             brackets,
         }),
+        Statement::Register | Statement::File | Statement::Enrol | Statement::Bill => {
+            return Some(Span {
+                slot: 0,
+                first: 0,
+                count: 0,
+                brackets,
+            });
+        }
     };
     let row = line.whole(0) as usize;
     let slot = first_slot + count * (row - 1);

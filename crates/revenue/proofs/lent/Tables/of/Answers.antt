@@ -1,4 +1,4 @@
-use Rattle.std.proofs.Common.{◌≡◌, ℕ, ◌-◌, min, List, length, take, ap, ◌∙◌, arith}
+use Rattle.std.proofs.Common.{arith}
 use Rattle.revenue.proofs.Fronts.{take_min}
 use Rattle.revenue.proofs.lent.Tables.of.Goals as goal
 

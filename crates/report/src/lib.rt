@@ -1,0 +1,5 @@
+// What a book file's calls answer and what its year comes to, in print.
+#![tactic(auto)]
+
+pub mod answers;
+pub mod statement;
