@@ -1,27 +1,16 @@
-// The calls of a book file: companies, localities, delivery points and their bills.
-ghost use Rattle.std.specs.Prelude.{◌≡◌};
-ghost use Rattle.bookfile.specs.Calls.{call_of, terms_of};
+// The calls of a book file: delivery points and their bills.
+ghost use Rattle.std.specs.Prelude.{◌≡◌, IfSome};
+ghost use Rattle.bookfile.specs.Calls.{call_of, Lawful};
 
 use crate::line::Line;
 use crate::statement::Statement;
-use company::figures::TermsFigures;
 
 #[derive(Clone, Copy)]
 pub enum Call {
-    /// A company registers its terms.
-    Register {
-        company: u64,
-        terms: TermsFigures,
-    },
-    /// A locality is filed: the row is the one with this index among the file's filings.
-    File {
-        locality: u64,
-        filing: usize,
-    },
-    /// A delivery point is enrolled with a locality.
-    Enrol {
-        point: u64,
-        locality: u64,
+    /// A delivery point is put at a place of the point table.
+    Point {
+        place: u64,
+        area: u64,
         class: u64,
         domestic: u64,
     },
@@ -33,22 +22,15 @@ pub enum Call {
     },
 }
 
-/// The call that a line makes after so many filings, if it makes one.
-pub(crate) fn call_of(line: &Line, filings: usize) -> Option<Call>
-    ensures { result ≡ call_of filings line.now.statement line.now.figures }
+/// The call that a line makes, if it makes one.
+pub(crate) fn call_of(line: &Line) -> Option<Call>
+    ensures value { result ≡ call_of line.now.statement line.now.figures }
+    ensures lawful { IfSome result Lawful }
 {
     match line.statement {
-        Statement::Register => Some(Call::Register {
-            company: line.whole(0),
-            terms: terms_of(line),
-        }),
-        Statement::File => Some(Call::File {
-            locality: line.whole(0),
-            filing: filings,
-        }),
-        Statement::Enrol => Some(Call::Enrol {
-            point: line.whole(0),
-            locality: line.whole(1),
+        Statement::Point => Some(Call::Point {
+            place: line.whole(0),
+            area: line.whole(1),
             class: line.whole(2),
             domestic: line.whole(3),
         }),
@@ -58,19 +40,5 @@ pub(crate) fn call_of(line: &Line, filings: usize) -> Option<Call>
             days: line.change(2),
         }),
         _ => None,
-    }
-}
-
-fn terms_of(line: &Line) -> TermsFigures
-    ensures { result ≡ terms_of line.now.figures }
-{
-    TermsFigures {
-        advance: line.change(1),
-        instalments: line.whole(2),
-        verification: line.whole(3),
-        central: line.whole(4),
-        points: line.whole(5),
-        density: line.whole(6),
-        year: line.whole(7),
     }
 }

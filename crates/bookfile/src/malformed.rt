@@ -22,7 +22,7 @@ impl fmt::Display for Malformed {
     fn fmt<W: fmt::Write>(&self, f: &mut fmt::Formatter<W>) -> fmt::Result {
         let (what, link, name) = match *self {
             Malformed::Keyword => (
-                "tariff, distribution, metering, bracket, coefficient, life, management, register, file, enrol or bill",
+                "tariff, distribution, metering, bracket, coefficient, life, point or bill",
                 " as the first word",
                 "",
             ),

@@ -1,16 +1,14 @@
-// The tariff table and the management rule of a book file, as its statements give them.
+// The tariff table of a book file, as its statements give it.
 mod filed;
 mod puts;
 
 /// The figures that are given so far, each in its slot: the single ones, then distribution and metering by area
-/// and class, the coefficients, the lives, the brackets, each its end and its price, and the management rule.
+/// and class, the coefficients, the lives, and the brackets, each its end and its price.
 #[derive(Clone, Copy)]
 pub struct Table {
-    slots: [Option<u64>; SLOTS],
+    slots: [Option<u64>; 91],
     brackets: usize,
 }
-
-const SLOTS: usize = 101;
 
 const DISTRIBUTION: usize = 11;
 
@@ -21,5 +19,3 @@ const COEFFICIENTS: usize = 59;
 const LIVES: usize = 67;
 
 const BRACKETS: usize = 75;
-
-const MANAGEMENT: usize = 91;

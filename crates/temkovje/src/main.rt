@@ -1,29 +1,15 @@
-// The program: reads book files, runs their calls, and prints what each of them answers and what the year then comes to.
+// The program: reads a book file, runs its calls and prints what each of them answers.
 #![tactic(auto)]
 
-use runner::run::run_book;
+mod points;
+mod report;
+mod run;
+
+use run::run_book;
 use std::{env, fs, io};
 
 fn main(rt: HostRuntime) -> io::Result<()> {
-    let mut files = 0u64;
-    for path in env::args(&rt)?.skip(1) {
-        files = files.saturating_add(1);
-        let path = path.as_str();
-        if files > 1 {
-            rt.print("\n")?;
-        }
-        println!(rt; "{path}")?;
-        print_book(&rt, fs::read_to_string(&rt, path))?;
-    }
-    if files == 0 {
-        print_book(&rt, io::read_to_string(rt.alloc(), rt.stdin()))?;
-    }
-    Ok(())
-}
-
-// Runs the text of a book file, and prints what it answers.
-fn print_book(rt: &HostRuntime, text: io::Result<String>) -> io::Result<()> {
-    let text = match text {
+    let text = match read_input(&rt) {
         Ok(text) => text,
         Err(e) => {
             eprintln!(rt; "the book file cannot be read: {e}")?;
@@ -38,3 +24,16 @@ fn print_book(rt: &HostRuntime, text: io::Result<String>) -> io::Result<()> {
         }
     }
 }
+
+// The file that the first argument names, or else the standard input.
+fn read_input(rt: &HostRuntime) -> io::Result<String> {
+    match env::args(rt)?.nth(1) {
+        Some(path) => fs::read_to_string(rt, path.as_str()),
+        None => io::read_to_string(rt.alloc(), rt.stdin()),
+    }
+}
+
+#[cfg(test)]
+mod reading_tests;
+#[cfg(test)]
+mod tests;

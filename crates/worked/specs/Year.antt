@@ -1,13 +1,14 @@
--- What tariff table the worked year has, what locality and what point.
-use Rattle.std.specs.Prelude.{ℕ, [], ◌∷◌, replicate}
+-- What tariff table the worked year has, and what delivery point.
+use Rattle.std.specs.Prelude.{ℕ, false, [], ◌∷◌, replicate}
+use Rattle.std.proofs.Common.{lit≤}
 use Rattle.units.specs.declared.amounts.PointPrice.{PointPrice}
 use Rattle.units.specs.declared.amounts.VolumePrice.{VolumePrice}
 use Rattle.tariff.specs.declared.figures.Bracket.{Bracket}
 use Rattle.tariff.specs.declared.figures.Life.{Life}
 use Rattle.tariff.specs.declared.figures.TariffFigures.{TariffFigures}
+use Rattle.tariff.specs.declared.supply.Supply.{Supply}
 use Rattle.tables.specs.declared.rows.AssetRow.{AssetRow}
 use Rattle.tables.specs.declared.rows.LocalityRow.{LocalityRow}
-use Rattle.tables.specs.declared.rows.PointRow.{PointRow}
 
 abbrev pub point_price : ℕ → PointPrice
 point_price p = record { 0 = p }
@@ -44,6 +45,10 @@ worked_table =
       rac = point_price 2000000;
     }
 
+-- area 1, class 1, not domestic
+abbrev pub worked_supply : Supply
+worked_supply = record { area = 1; class = 1; domestic = false; first = lit≤ tt; eighth = lit≤ tt; least = lit≤ tt; most = lit≤ tt }
+
 abbrev pub asset : ℕ → ℕ → ℕ → ℕ → AssetRow
 asset gross net contributions remaining = record { gross = gross; net = net; works = 0; contributions = contributions; remaining = remaining }
 
@@ -58,7 +63,3 @@ worked_locality =
       smart = 40;
       rows = asset 0 0 0 0 ∷ asset 0 0 0 0 ∷ asset 1000000 600000 0 0 ∷ asset 0 0 0 0 ∷ asset 0 0 0 0 ∷ asset 300000 100000 30000 10000 ∷ asset 0 0 0 0 ∷ asset 0 0 0 0 ∷ [];
     }
-
--- a point in that locality, of class 1 and not domestic, at a volume and days
-abbrev pub worked_point : ℕ → ℕ → PointRow
-worked_point volume days = record { locality = 0; class = 1; domestic = 0; volume = volume; days = days }

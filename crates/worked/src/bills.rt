@@ -1,10 +1,11 @@
 // Amounts of the six lines, against a table of them.
-use crate::compare::{Figures, Tally};
+use crate::compare::Tally;
 use crate::numbers::Numbers;
 use crate::tariffs::tariff_figures;
 use anyhow::anyhow;
 use std::alloc::Global;
 use std::fs;
+use tariff::bill::Amounts;
 use tariff::supply::{Reading, Supply};
 use tariff::table::Tariff;
 
@@ -41,34 +42,53 @@ fn reading(numbers: &mut Numbers) -> anyhow::Result<Reading> {
     Ok(reading)
 }
 
-/// The six lines of a bill.
-#[derive(Clone, Copy)]
-pub struct BillLines;
+// The amounts by the table, supply and reading that stand next.
+fn amounts(tables: &Vec<Tariff>, numbers: &mut Numbers) -> anyhow::Result<Amounts> {
+    let place = numbers.take() as usize;
+    let supply = supply(numbers)?;
+    let reading = reading(numbers)?;
+    let Some(table) = tables.get(place) else {
+        return Err(anyhow!("no such tariff table"));
+    };
+    Ok(table.amounts(supply, reading))
+}
 
-impl Figures for BillLines {
-    fn file(&self) -> &'static str {
-        "lines.txt"
-    }
+fn compare_line(
+    rt: &HostRuntime,
+    tally: &mut Tally,
+    line: u64,
+    tables: &Vec<Tariff>,
+    numbers: &mut Numbers,
+) -> anyhow::Result<()> {
+    let found = amounts(tables, numbers)?;
+    tally.compare(rt, line, "distribution", found.distribution, numbers.take())?;
+    tally.compare(rt, line, "metering", found.metering, numbers.take())?;
+    tally.compare(rt, line, "commercial", found.commercial, numbers.take())?;
+    tally.compare(rt, line, "variable", found.variable, numbers.take())?;
+    tally.compare(rt, line, "gs", found.gs, numbers.take())?;
+    tally.compare(rt, line, "ug1", found.ug1, numbers.take())?;
+    numbers.finish()
+}
 
-    fn compare_line(
-        &self,
-        rt: &HostRuntime,
-        tally: &mut Tally,
-        line: u64,
-        table: &Tariff,
-        numbers: &mut Numbers,
-    ) -> anyhow::Result<()> {
-        let supply = supply(numbers)?;
-        let reading = reading(numbers)?;
-        let found = table.amounts(supply, reading);
-        tally.compare(rt, line, "distribution", found.distribution, numbers.take())?;
-        tally.compare(rt, line, "metering", found.metering, numbers.take())?;
-        tally.compare(rt, line, "commercial", found.commercial, numbers.take())?;
-        tally.compare(rt, line, "variable", found.variable, numbers.take())?;
-        tally.compare(rt, line, "gs", found.gs, numbers.take())?;
-        tally.compare(rt, line, "ug1", found.ug1, numbers.take())?;
-        Ok(())
+pub fn run(rt: &HostRuntime) -> anyhow::Result<()> {
+    let heap = rt.alloc();
+    let tables = tariffs(heap, fs::read_to_string(rt, "tariffs.txt")?.as_str())?;
+    let text = fs::read_to_string(rt, "lines.txt")?;
+    let mut tally = Tally::new();
+    let mut number = 0u64;
+    for line in text.as_str().lines() {
+        number = number.saturating_add(1);
+        if !line.starts_with('#') {
+            compare_line(
+                rt,
+                &mut tally,
+                number,
+                &tables,
+                &mut Numbers::of(heap, line)?,
+            )?;
+        }
     }
+    tally.print(rt, "lines.txt")
 }
 
 /// In a year of 365 days a bill may bring 365 days, and not 366.

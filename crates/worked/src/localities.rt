@@ -1,7 +1,9 @@
 // Costs of localities, against a table of them.
-use crate::compare::{Figures, Tally};
+use crate::bills::tariffs;
+use crate::compare::Tally;
 use crate::numbers::Numbers;
 use anyhow::anyhow;
+use std::fs;
 use tables::locality::Locality;
 use tables::rows::{AssetRow, LocalityRow};
 use tables::service::Service;
@@ -50,53 +52,61 @@ fn component(locality: &Locality, table: &Tariff, service: Service) -> u64 {
     }
 }
 
-/// The costs of localities.
-#[derive(Clone, Copy)]
-pub struct LocalityCosts;
+fn compare_line(
+    rt: &HostRuntime,
+    tally: &mut Tally,
+    line: u64,
+    table: &Tariff,
+    numbers: &mut Numbers,
+) -> anyhow::Result<()> {
+    let locality = locality(numbers)?;
+    tally.compare(
+        rt,
+        line,
+        "distribution cost",
+        locality.capital_cost(table, Service::Distribution),
+        numbers.take(),
+    )?;
+    tally.compare(
+        rt,
+        line,
+        "metering cost",
+        locality.capital_cost(table, Service::Metering),
+        numbers.take(),
+    )?;
+    tally.compare(
+        rt,
+        line,
+        "distribution component",
+        component(&locality, table, Service::Distribution),
+        numbers.take(),
+    )?;
+    tally.compare(
+        rt,
+        line,
+        "metering component",
+        component(&locality, table, Service::Metering),
+        numbers.take(),
+    )?;
+    tally.compare(rt, line, "locality", locality.figure(table), numbers.take())?;
+    numbers.finish()
+}
 
-impl Figures for LocalityCosts {
-    fn file(&self) -> &'static str {
-        "localities.txt"
+pub fn run(rt: &HostRuntime) -> anyhow::Result<()> {
+    let heap = rt.alloc();
+    let tables = tariffs(heap, fs::read_to_string(rt, "tariffs.txt")?.as_str())?;
+    let text = fs::read_to_string(rt, "localities.txt")?;
+    let mut tally = Tally::new();
+    let mut number = 0u64;
+    for line in text.as_str().lines() {
+        number = number.saturating_add(1);
+        if !line.starts_with('#') {
+            let mut numbers = Numbers::of(heap, line)?;
+            let Some(table) = tables.get(numbers.take() as usize) else {
+                return Err(anyhow!("no such tariff table"));
+            };
+            compare_line(rt, &mut tally, number, table, &mut numbers)?;
+        }
     }
-
-    fn compare_line(
-        &self,
-        rt: &HostRuntime,
-        tally: &mut Tally,
-        line: u64,
-        table: &Tariff,
-        numbers: &mut Numbers,
-    ) -> anyhow::Result<()> {
-        let locality = locality(numbers)?;
-        tally.compare(
-            rt,
-            line,
-            "distribution cost",
-            locality.capital_cost(table, Service::Distribution),
-            numbers.take(),
-        )?;
-        tally.compare(
-            rt,
-            line,
-            "metering cost",
-            locality.capital_cost(table, Service::Metering),
-            numbers.take(),
-        )?;
-        tally.compare(
-            rt,
-            line,
-            "distribution component",
-            component(&locality, table, Service::Distribution),
-            numbers.take(),
-        )?;
-        tally.compare(
-            rt,
-            line,
-            "metering component",
-            component(&locality, table, Service::Metering),
-            numbers.take(),
-        )?;
-        tally.compare(rt, line, "locality", locality.figure(table), numbers.take())?;
-        Ok(())
-    }
+    tally.print(rt, "localities.txt")
 }

@@ -6,20 +6,15 @@ mod compare;
 mod localities;
 mod numbers;
 mod rules;
-mod served;
 mod tariffs;
 mod year;
 
-use bills::BillLines;
-use localities::LocalityCosts;
-use served::ServedPoints;
-
 fn run(rt: &HostRuntime) -> anyhow::Result<()> {
     let _ = year::worked_year();
-    compare::run(rt, &BillLines)?;
+    let _ = year::worked_revenue();
+    bills::run(rt)?;
     bills::boundaries(rt)?;
-    compare::run(rt, &LocalityCosts)?;
-    compare::run(rt, &ServedPoints)?;
+    localities::run(rt)?;
     rules::run(rt)?;
     rules::boundaries(rt)
 }

@@ -1,6 +1,5 @@
 // The figures of a line, as the numbers that they are.
 ghost use Rattle.std.specs.Prelude.{◌≡◌, ◌<◌, None, slice_index_or};
-ghost use Rattle.bookfile.specs.Grammar.{most_figures};
 ghost use Rattle.bookfile.specs.Numbers.{whole_of, change_of};
 
 use super::Line;
@@ -8,7 +7,7 @@ use super::Line;
 impl Line {
     /// A figure that is a whole number; 0 where it is not given.
     pub(crate) fn whole(&self, i: usize) -> u64
-        requires { i < most_figures }
+        requires { i < 11 }
         ensures { result ≡ whole_of (slice_index_or self.now.figures i None) }
     {
         self.figures[i].unwrap_or(0).clamp(0, 18446744073709551615) as u64
@@ -16,7 +15,7 @@ impl Line {
 
     /// A figure that is a change; 0 where it is not given.
     pub(crate) fn change(&self, i: usize) -> i64
-        requires { i < most_figures }
+        requires { i < 11 }
         ensures { result ≡ change_of (slice_index_or self.now.figures i None) }
     {
         self.figures[i]

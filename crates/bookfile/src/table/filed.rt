@@ -1,11 +1,9 @@
-// The tariff table and the management rule as they are filed, from the figures that are given.
-ghost use Rattle.std.specs.Prelude.{◌≡◌, ◌+◌, ◌<◌, ◌≤◌, map};
+// The tariff table as it is filed, from the figures that are given.
+ghost use Rattle.std.specs.Prelude.{◌≡◌, ◌<◌, ◌≤◌, map};
 ghost use Rattle.std.specs.List.{range_with_len};
-ghost use Rattle.bookfile.specs.Filed.{figure, price, coefficient, life, bracket, filed, rule_of};
-ghost use Rattle.bookfile.specs.Tables.{slot_count};
+ghost use Rattle.bookfile.specs.Filed.{figure, price, coefficient, life, bracket, filed};
 
-use super::{BRACKETS, COEFFICIENTS, DISTRIBUTION, LIVES, MANAGEMENT, METERING, Table};
-use crate::rule::RuleFigures;
+use super::{BRACKETS, COEFFICIENTS, DISTRIBUTION, LIVES, METERING, Table};
 use tariff::figures::{Bracket, Coefficient, Life, Rate, TariffFigures};
 use units::amounts::{PointPrice, VolumePrice};
 
@@ -35,29 +33,19 @@ impl Table {
         }
     }
 
-    /// The figures of the management rule; one that is not given is 0.
-    pub(crate) fn rule(&self) -> RuleFigures
-        ensures { result ≡ rule_of self.now }
-    {
-        RuleFigures {
-            wide: self.figure(MANAGEMENT) == 1,
-            prices: self.prices(MANAGEMENT + 1),
-        }
-    }
-
     fn figure(&self, slot: usize) -> u64
-        requires { slot < slot_count }
+        requires { slot < 91 }
         ensures { result ≡ figure self.now slot }
     {
         self.slots[slot].unwrap_or(0)
     }
 
-    fn prices<const N: usize>(&self, from: usize) -> [PointPrice; N]
-        requires { from + N ≤ slot_count }
-        ensures { result ≡ map (price self.now from) (range_with_len 0 N) }
+    fn prices(&self, from: usize) -> [PointPrice; 24]
+        requires { from ≤ 35 }
+        ensures { result ≡ map (price self.now from) (range_with_len 0 24) }
     {
-        let mut prices = [PointPrice(0); N];
-        for i in 0..N {
+        let mut prices = [PointPrice(0); 24];
+        for i in 0..24 {
             prices[i] = PointPrice(self.figure(from + i));
         }
         prices

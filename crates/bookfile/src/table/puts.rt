@@ -1,9 +1,8 @@
 // Putting the figures of statements into the table.
 ghost use Rattle.std.specs.Prelude.{◌≡◌, ◌+◌, ◌≤◌, IfSome, Some, None, MatchResult};
-ghost use Rattle.bookfile.specs.Grammar.{most_figures};
-ghost use Rattle.bookfile.specs.Tables.{empty_table, slot_count, span_of, table_after};
+ghost use Rattle.bookfile.specs.Tables.{empty_table, span_of, table_after};
 
-use super::{BRACKETS, COEFFICIENTS, DISTRIBUTION, LIVES, MANAGEMENT, METERING, SLOTS, Table};
+use super::{BRACKETS, COEFFICIENTS, DISTRIBUTION, LIVES, METERING, Table};
 use crate::line::Line;
 use crate::malformed::Malformed;
 use crate::slots::put_all;
@@ -25,7 +24,7 @@ impl Table {
         ensures { result ≡ empty_table }
     {
         Table {
-            slots: [None; SLOTS],
+            slots: [None; 91],
             brackets: 0,
         }
     }
@@ -46,7 +45,7 @@ impl Table {
 // The span of a line, where the table has so many brackets; none for a ninth bracket.
 fn line_span(line: &Line, brackets: usize) -> Option<Span>
     ensures value { result ≡ span_of line.now.statement line.now.figures brackets }
-    ensures room { IfSome result (λ s. (s.slot + s.count ≤ slot_count) × (s.first + s.count ≤ most_figures)) }
+    ensures room { IfSome result (λ s. (s.slot + s.count ≤ 91) × (s.first + s.count ≤ 11)) }
 {
     let (first_slot, count) = match line.statement {
         Statement::Tariff => return Some(Span {
@@ -69,20 +68,12 @@ fn line_span(line: &Line, brackets: usize) -> Option<Span>
             });
         }
         Statement::Bracket => return None,
-        Statement::Management => return Some(Span {
-            slot: MANAGEMENT,
+        Statement::Point | Statement::Bill => return Some(Span {
+            slot: 0,
             first: 0,
-            count: 10,
+            count: 0,
             brackets,
         }),
-        Statement::Register | Statement::File | Statement::Enrol | Statement::Bill => {
-            return Some(Span {
-                slot: 0,
-                first: 0,
-                count: 0,
-                brackets,
-            });
-        }
     };
     let row = line.whole(0) as usize;
     let slot = first_slot + count * (row - 1);

@@ -1,0 +1,111 @@
+// The point table: plain rows, and the two calls that write them.
+ghost use Rattle.std.specs.Prelude.{◌≡◌};
+ghost use Rattle.temkovje.specs.Points.{point_answer, point_after, Absent, bill_after};
+
+use tariff::bill::Bill;
+use tariff::supply::{Reading, Supply};
+use tariff::table::Tariff;
+use units::refusal::{Reason, Refusal};
+
+/// A delivery point, with its volume and days of the year to date.
+#[derive(Clone, Copy)]
+pub struct Row {
+    pub area: u64,
+    pub class: u64,
+    pub domestic: bool,
+    pub volume: u64,
+    pub days: u64,
+}
+
+/// Puts a delivery point at a place.
+pub fn put_point(
+    rows: &mut [Option<Row>],
+    place: u64,
+    area: u64,
+    class: u64,
+    domestic: u64,
+) -> Result<Row, Refusal>
+    ensures answer { result ≡ point_answer rows.old place area class domestic }
+    ensures after { rows.new ≡ point_after rows.old place result }
+{
+    if place >= rows.len() as u64 {
+        return Err(Refusal {
+            reason: Reason::PastTable,
+            place,
+        });
+    }
+    if rows[place as usize].is_some() {
+        return Err(Refusal {
+            reason: Reason::PlaceTaken,
+            place,
+        });
+    }
+    if class < 1 || class > 3 {
+        return Err(Refusal {
+            reason: Reason::FigureLimit,
+            place: 1,
+        });
+    }
+    if domestic > 1 {
+        return Err(Refusal {
+            reason: Reason::FigureLimit,
+            place: 2,
+        });
+    }
+    let row = Row {
+        area,
+        class,
+        domestic: domestic == 1,
+        volume: 0,
+        days: 0,
+    };
+    rows[place as usize] = Some(row);
+    Ok(row)
+}
+
+/// Bills a point: its volume and days change, and by the tariff its line amounts.
+pub fn bill_point(
+    tariff: &Tariff,
+    rows: &mut [Option<Row>],
+    place: u64,
+    volume: i64,
+    days: i64,
+) -> Result<Bill, Refusal>
+    ensures absent { Absent rows.old place result }
+    ensures after { rows.new ≡ bill_after rows.old place result }
+{
+    if place >= rows.len() as u64 {
+        return Err(Refusal {
+            reason: Reason::PastTable,
+            place,
+        });
+    }
+    let Some(row) = rows[place as usize] else {
+        return Err(Refusal {
+            reason: Reason::NothingThere,
+            place,
+        });
+    };
+    match charge(tariff, row, volume, days) {
+        Ok(bill) => {
+            rows[place as usize] = Some(Row {
+                volume: bill.volume,
+                days: bill.days,
+                ..row
+            });
+            Ok(bill)
+        }
+        Err(reason) => Err(Refusal { reason, place }),
+    }
+}
+
+// A row outside its limits counts as blank.
+fn charge(tariff: &Tariff, row: Row, volume: i64, days: i64) -> Result<Bill, Reason> {
+    let Some(supply) = Supply::new(row.area, row.class, row.domestic) else {
+        return Err(Reason::NothingThere);
+    };
+    let Some(at) = Reading::new(row.volume, row.days) else {
+        return Err(Reason::NothingThere);
+    };
+    tariff.bill(supply, at, volume, days)
+}

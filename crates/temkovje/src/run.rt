@@ -1,0 +1,97 @@
+// A book file run from its text to what it prints.
+use crate::points::{Row, bill_point, put_point};
+use crate::report::{write_bill, write_point};
+use bookfile::calls::Call;
+use bookfile::file::{Unread, read};
+use bookfile::naming::figure_at;
+use std::alloc::{AllocError, Global};
+use std::fmt;
+use tariff::table::Tariff;
+use units::refusal::Refusal;
+
+/// The places of the point table.
+const PLACES: usize = 65536;
+
+/// Why a book file is not run.
+#[derive(Clone, Copy)]
+pub enum Failure {
+    Unread(Unread),
+    /// The tariff table, of so many brackets, is refused.
+    Tariff { refusal: Refusal, brackets: usize },
+    Memory,
+}
+
+impl From<Unread> for Failure {
+    fn from(e: Unread) -> Failure {
+        Failure::Unread(e)
+    }
+}
+
+impl From<AllocError> for Failure {
+    fn from(_e: AllocError) -> Failure {
+        Failure::Memory
+    }
+}
+
+impl From<fmt::Error> for Failure {
+    fn from(_e: fmt::Error) -> Failure {
+        Failure::Memory
+    }
+}
+
+impl fmt::Display for Failure {
+    fn fmt<W: fmt::Write>(&self, f: &mut fmt::Formatter<W>) -> fmt::Result {
+        match *self {
+            Failure::Unread(e) => write!(f, "{e}"),
+            Failure::Tariff { refusal, brackets } => match figure_at(
+                refusal.place,
+                brackets as u64,
+            ) {
+                Some(figure) => write!(f, "{refusal}: {figure}"),
+                None => write!(f, "{refusal}"),
+            },
+            Failure::Memory => write!(f, "there is not enough memory"),
+        }
+    }
+}
+
+/// Reads a book file and runs its calls; a file that is malformed or whose tariff is refused runs none.
+pub fn run_book(heap: Global, text: &str) -> Result<String, Failure> {
+    let book = read(heap, text)?;
+    let brackets = book.tariff.count;
+    let tariff = match Tariff::new(book.tariff) {
+        Ok(tariff) => tariff,
+        Err(refusal) => return Err(Failure::Tariff { refusal, brackets }),
+    };
+    let mut rows: Vec<Option<Row>> = vec![in heap; None; PLACES]?;
+    let mut out = String::new(heap);
+    for numbered in book.calls.iter() {
+        answer(&mut out, &tariff, rows.as_mut_slice(), numbered.call)?;
+    }
+    Ok(out)
+}
+
+// Runs a call, and writes what it answers.
+fn answer<W: fmt::Write>(
+    out: &mut W,
+    tariff: &Tariff,
+    rows: &mut [Option<Row>],
+    call: Call,
+) -> fmt::Result {
+    match call {
+        Call::Point {
+            place,
+            area,
+            class,
+            domestic,
+        } => { write_point(out, place, put_point(rows, place, area, class, domestic)) }
+        Call::Bill {
+            point,
+            volume,
+            days,
+        } => {
+            let answer = bill_point(tariff, rows, point, volume, days);
+            write_bill(out, point, volume, days, answer)
+        }
+    }
+}
