@@ -1,5 +1,5 @@
 -- Bounds of the instalments, and that they make up the advance.
-use Rattle.std.proofs.Common.{◌≡◌, ℕ, zero, suc, ◌+◌, ◌-◌, ◌*◌, ◌/◌, ◌≤◌, ℤ, pos, negsuc, ◌+ℤ◌, ◌-ℤ◌, ◌*ℤ◌, neg_ℤ, nat_abs, ◌≤ℤ◌, refl, ap, ◌∙◌, mul-le-mul, arith}
+use Rattle.std.proofs.Common.{◌≡◌, ℕ, zero, suc, ◌+◌, ◌-◌, ◌*◌, ◌≤◌, ℤ, pos, negsuc, ◌*ℤ◌, neg_ℤ, nat_abs, ◌≤ℤ◌, ap, ◌∙◌, mul-le-mul, arith}
 use native.Mathlib.Nat.{zero-div, mul-div_cancel_left, div-eq_of_lt-le}
 use borrow.Author.Differences.{ints}
 use Rattle.company.specs.Instalments.{floor, paid_up_to, instalments_to, AddUp}

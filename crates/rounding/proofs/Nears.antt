@@ -1,5 +1,5 @@
 -- Nearness adds up: over sums, differences and lists.
-use Rattle.std.proofs.Common.{◌≡◌, ℕ, zero, suc, ◌+◌, ◌*◌, ◌≤◌, Bool, true, false, cond, List, [], ◌∷◌, ℤ, pos, ◌+ℤ◌, ◌-ℤ◌, ◌*ℤ◌, neg_ℤ, ◌≤ℤ◌, refl, ap, subst, mul-le-mul_right, mul-le-mul_left, arith}
+use Rattle.std.proofs.Common.{ℕ, ◌+◌, ◌*◌, ◌≤◌, Bool, true, false, cond, List, [], ◌∷◌, ℤ, pos, ◌+ℤ◌, ◌-ℤ◌, ◌*ℤ◌, neg_ℤ, ap, subst, mul-le-mul_right, arith}
 use native.Mathlib.Nat.{le_of_mul-le-mul_left}
 use borrow.Author.Differences.{ints, up, down, sum_is_lem, product_is, neg_is}
 use Rattle.rounding.specs.Frac.{Frac, whole, plus, minus, Same}

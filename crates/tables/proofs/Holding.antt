@@ -1,7 +1,7 @@
 -- A row that stands keeps every limit.
-use Rattle.std.proofs.Common.{◌≡◌, ℕ, zero, suc, ◌+◌, ◌≤◌, Bool, true, false, not, ◌&&◌, leb, List, [], ◌∷◌, get_or, take, drop, is_some, Some, None, Option, sym, refl, ◌∙◌, arith}
+use Rattle.std.proofs.Common.{◌≡◌, ℕ, zero, suc, ◌+◌, true, false, not, ◌&&◌, leb, List, [], ◌∷◌, get_or, take, drop, is_some, Some, None, Option, sym, refl, arith}
 use Rattle.std.proofs.lemmas.Bool.{and_parts, leb-true, not-true, false≢true}
-use Rattle.limits.specs.First.{unless, first_of}
+use Rattle.limits.specs.First.{unless}
 use Rattle.limits.proofs.Firsts.{none_at, fits_of}
 use Rattle.tables.specs.declared.rows.AssetRow.{AssetRow}
 use Rattle.tables.specs.declared.rows.LocalityRow.{LocalityRow}

@@ -1,6 +1,6 @@
 -- The costs of a locality are near their exact values: a half for each rounded figure.
-use Rattle.std.proofs.Common.{ℕ, ◌+◌, ◌-◌, ◌*◌, ◌≤◌, min, Bool, true, false, cond, eqb, List, [], ◌∷◌, length, take, drop, pos, arith, length-take}
-use Rattle.rounding.specs.Frac.{Frac, over, whole, plus}
+use Rattle.std.proofs.Common.{ℕ, ◌+◌, ◌-◌, ◌*◌, ◌≤◌, Bool, true, false, cond, eqb, List, [], ◌∷◌, length, drop, pos, arith, length-take}
+use Rattle.rounding.specs.Frac.{Frac, whole, plus}
 use Rattle.rounding.specs.Rounding.{rounded}
 use Rattle.rounding.specs.Sums.{sum_n}
 use Rattle.rounding.specs.Nearness.{Near}

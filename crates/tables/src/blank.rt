@@ -13,22 +13,25 @@ fn fill<T: Copy>(rows: &mut [T], row: T)
     }
 }
 
-/// A blank row of the point table.
-pub fn no_point() -> PointRow
-    ensures { result ≡ no_point }
+/// Every row of the table is blank afterwards.
+pub fn blank_points(rows: &mut [PointRow])
+    ensures { rows.new ≡ replicate (length rows.old) no_point }
 {
-    PointRow {
-        locality: 0,
-        class: 0,
-        domestic: 0,
-        volume: 0,
-        days: 0,
-    }
+    fill(
+        rows,
+        PointRow {
+            locality: 0,
+            class: 0,
+            domestic: 0,
+            volume: 0,
+            days: 0,
+        },
+    );
 }
 
-/// A blank row of the locality table.
-pub fn no_locality() -> LocalityRow
-    ensures { result ≡ no_locality }
+/// Every row of the table is blank afterwards.
+pub fn blank_localities(rows: &mut [LocalityRow])
+    ensures { rows.new ≡ replicate (length rows.old) no_locality }
 {
     let asset = AssetRow {
         gross: 0,
@@ -37,26 +40,15 @@ pub fn no_locality() -> LocalityRow
         contributions: 0,
         remaining: 0,
     };
-    LocalityRow {
-        company: 0,
-        state: 0,
-        area: 0,
-        expected: 0,
-        smart: 0,
-        rows: [asset; 8],
-    }
-}
-
-/// Every row of the table is blank afterwards.
-pub fn blank_points(rows: &mut [PointRow])
-    ensures { rows.new ≡ replicate (length rows.old) no_point }
-{
-    fill(rows, no_point());
-}
-
-/// Every row of the table is blank afterwards.
-pub fn blank_localities(rows: &mut [LocalityRow])
-    ensures { rows.new ≡ replicate (length rows.old) no_locality }
-{
-    fill(rows, no_locality());
+    fill(
+        rows,
+        LocalityRow {
+            company: 0,
+            state: 0,
+            area: 0,
+            expected: 0,
+            smart: 0,
+            rows: [asset; 8],
+        },
+    );
 }

@@ -6,21 +6,25 @@ mod report;
 mod run;
 
 use run::run_book;
+use std::process::ExitCode;
 use std::{env, fs, io};
 
-fn main(rt: HostRuntime) -> io::Result<()> {
+fn main(rt: HostRuntime) -> io::Result<ExitCode> {
     let text = match read_input(&rt) {
         Ok(text) => text,
         Err(e) => {
             eprintln!(rt; "the book file cannot be read: {e}")?;
-            return Err(e);
+            return Ok(ExitCode::FAILURE);
         }
     };
     match run_book(rt.alloc(), text.as_str()) {
-        Ok(out) => rt.print(out),
+        Ok(out) => {
+            rt.print(out)?;
+            Ok(ExitCode::SUCCESS)
+        }
         Err(failure) => {
             eprintln!(rt; "{failure}")?;
-            Err(io::Error::from(io::ErrorKind::InvalidData))
+            Ok(ExitCode::FAILURE)
         }
     }
 }

@@ -1,8 +1,6 @@
-use Rattle.std.proofs.Common.{◌≡◌, ℕ, ◌+◌, ◌≤◌, List, [], ◌∷◌, length, get_or, drop, ap, ◌∙◌, arith}
+use Rattle.std.proofs.Common.{List, drop, ap, arith}
 use Rattle.std.proofs.lemmas.List.{drop_all}
-use Rattle.tariff.specs.declared.figures.Life.{Life}
 use Rattle.tables.specs.declared.rows.AssetRow.{AssetRow}
-use Rattle.tables.specs.Filings.{no_asset}
 use Rattle.tables.specs.Costs.{depreciation}
 use Rattle.tables.proofs.Depreciating.{depreciation_more}
 use Rattle.tables.proofs.assets.depreciation.Goals as goal

@@ -1,6 +1,5 @@
-use Rattle.std.proofs.Common.{get_or, sym}
+use Rattle.std.proofs.Common.{sym}
 use Rattle.std.proofs.lemmas.Bool.{cond-false}
-use Rattle.tables.specs.Blank.{past_table}
 use Rattle.tables.proofs.Pasts.{no_locality_past}
 use Rattle.tables.proofs.lookup.locality_at.Goals as goal
 

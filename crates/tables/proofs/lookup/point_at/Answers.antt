@@ -1,6 +1,5 @@
-use Rattle.std.proofs.Common.{get_or, sym}
+use Rattle.std.proofs.Common.{sym}
 use Rattle.std.proofs.lemmas.Bool.{cond-false}
-use Rattle.tables.specs.Blank.{no_point}
 use Rattle.tables.proofs.Pasts.{no_point_past}
 use Rattle.tables.proofs.lookup.point_at.Goals as goal
 

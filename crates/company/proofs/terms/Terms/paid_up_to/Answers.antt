@@ -1,4 +1,4 @@
-use Rattle.std.proofs.Common.{◌≡◌, ◌≤ℤ◌, pos, neg_ℤ, arith, w64, to_z, of_z}
+use Rattle.std.proofs.Common.{◌≡◌, arith, w64, to_z, of_z}
 use mir.Syntax.{w128}
 use Rattle.std.proofs.lemmas.Int.{ints}
 use Rattle.company.specs.Instalments.{paid_up_to}

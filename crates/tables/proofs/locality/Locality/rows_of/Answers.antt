@@ -1,5 +1,4 @@
-use Rattle.std.proofs.Common.{ℕ, List, rules}
-use Rattle.tables.specs.Filings.{no_asset, AssetHeld}
+use Rattle.std.proofs.Common.{rules}
 use Rattle.tables.proofs.Holding.{held, held_part}
 use Rattle.tables.proofs.locality.Locality.rows_of.Goals as goal
 
