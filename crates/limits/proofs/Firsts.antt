@@ -1,22 +1,27 @@
 -- The first bad figure of a list, step by step, and what follows where there is none.
-use Rattle.std.proofs.Common.{◌≡◌, ℕ, zero, suc, ◌+◌, ◌<◌, ◌≤◌, Bool, true, false, cond, List, [], ◌∷◌, length, get_or, drop, is_some, Some, None, Option, sym, refl, ap, ◌∙◌}
+use Rattle.std.proofs.Common.{◌≡◌, ℕ, zero, suc, ◌+◌, ◌<◌, ◌≤◌, Bool, true, false, not, cond, List, [], ◌∷◌, length, get_or, drop, is_some, Some, None, Option, sym, refl, ap, ◌∙◌, arith}
 use Rattle.std.proofs.lemmas.List.{at_drop_more, drop_all}
-use Rattle.std.proofs.lemmas.Bool.{cond-true, cond-false, false≢true}
+use Rattle.std.proofs.lemmas.Bool.{cond-true, false≢true}
+use Rattle.std.specs.List.{position_from}
+use Rattle.std.specs.Option.{option_map}
 use Rattle.limits.specs.First.{unless, first_beyond, first_of}
 
 -- ---- A list of figures of one kind
-beyond_more : {X : Type 0} (fits : X → Bool) (n : ℕ) (xs : List X) (i : ℕ) (x : X) → i < length xs → x ≡ get_or xs i x → first_beyond fits n (drop i xs) ≡ cond (fits x) (first_beyond fits (n + 1) (drop (i + 1) xs)) (Some n)
-beyond_more {X} fits n xs i x l is =
-    at_drop_more (first_beyond fits n) xs i x l ∙ ap (λ (y : X). first_beyond fits n (y ∷ drop (i + 1) xs)) (sym is)
+beyond_step : (fits : Bool) (n k : ℕ) (r s : Option ℕ) → r ≡ option_map (λ i. n + i) s → cond fits r (Some (n + k)) ≡ option_map (λ i. n + i) (cond (not fits) (Some k) s)
+beyond_step true n k r s e = e
+beyond_step false n k r s e = refl
 
-pub beyond_bad : {X : Type 0} (fits : X → Bool) (n : ℕ) (xs : List X) (i : ℕ) (x : X) → i < length xs → x ≡ get_or xs i x → fits x ≡ false → first_beyond fits n (drop i xs) ≡ Some n
-beyond_bad fits n xs i x l is bad = beyond_more fits n xs i x l is ∙ cond-false (fits x) _ _ bad
+beyond_from : {X : Type 0} (fits : X → Bool) (n k : ℕ) (xs : List X) → first_beyond fits (n + k) xs ≡ option_map (λ i. n + i) (position_from (λ x. not (fits x)) k xs)
+beyond_from fits n k [] = refl
+beyond_from fits n k (x ∷ xs) =
+    let next : n + k + 1 ≡ n + (k + 1) = omega arith in
+    beyond_step (fits x) n k _ _ (ap (λ (m : ℕ). first_beyond fits m xs) next ∙ beyond_from fits n (k + 1) xs)
 
-pub beyond_good : {X : Type 0} (fits : X → Bool) (n : ℕ) (xs : List X) (i : ℕ) (x : X) → i < length xs → x ≡ get_or xs i x → fits x ≡ true → first_beyond fits n (drop i xs) ≡ first_beyond fits (n + 1) (drop (i + 1) xs)
-beyond_good fits n xs i x l is good = beyond_more fits n xs i x l is ∙ cond-true (fits x) _ _ good
-
-pub beyond_end : {X : Type 0} (fits : X → Bool) (n : ℕ) (xs : List X) (i : ℕ) → length xs ≤ i → first_beyond fits n (drop i xs) ≡ None
-beyond_end fits n xs i l = ap (first_beyond fits n) (drop_all i xs l)
+-- the first bad figure stands at the first place whose figure does not fit
+pub beyond_at : {X : Type 0} (fits : X → Bool) (n : ℕ) (xs : List X) → first_beyond fits n xs ≡ option_map (λ i. n + i) (position_from (λ x. not (fits x)) 0 xs)
+beyond_at fits n xs =
+    let first : n ≡ n + 0 = omega arith in
+    ap (λ (m : ℕ). first_beyond fits m xs) first ∙ beyond_from fits n 0 xs
 
 -- ---- The first of several answers
 pub of_some : (o : Option ℕ) (os : List (Option ℕ)) → is_some o ≡ true → first_of (o ∷ os) ≡ o

@@ -1,10 +1,13 @@
 // Limits of figures by their kind, and the first bad one of numbered figures.
 #![tactic(auto)]
 
-ghost use Rattle.std.specs.Prelude.{◌≡◌, ◌+◌, ◌^◌, ◌<◌, Bool, length};
+ghost use Rattle.std.specs.Prelude.{◌≡◌, ◌+◌, ◌^◌, ◌<◌, Bool, not, length, None, IfSome, OnOk};
+ghost use Rattle.std.specs.List.{position_from};
+ghost use Rattle.limits.specs.Checked.{unless_bad};
 ghost use Rattle.limits.specs.First.{point_price_fits, volume_price_fits, among, unless, first_beyond, first_of};
 
 use units::amounts::{PointPrice, VolumePrice};
+use units::refusal::{Reason, Refusal};
 
 /// A figure that has a limit by its kind.
 pub trait Limited {
@@ -34,7 +37,7 @@ impl Limited for VolumePrice {
 pub fn among(most: u64, n: u64) -> bool
     ensures { result ≡ among most n }
 {
-    1 <= n && n <= most
+    (1..=most).contains(&n)
 }
 
 /// The number of a figure that does not fit.
@@ -60,12 +63,25 @@ pub fn first_of(found: &[Option<u64>]) -> Option<u64>
 pub fn first_beyond<F: Limited>(first: u64, list: &[F]) -> Option<u64>
     ensures { first + length list.now < 2 ^ 64 → result ≡ first_beyond F.Limited.fits first list.now }
 {
-    let mut number = first;
-    for figure in list {
-        if !figure.is_within() {
-            return Some(number);
-        }
-        number = number.saturating_add(1);
+    let place = first_outside(list)?;
+    Some(first.saturating_add(place as u64))
+}
+
+// The place of the first figure that does not fit.
+fn first_outside<F: Limited>(list: &[F]) -> Option<usize>
+    ensures place { result ≡ position_from (λ figure. not (F.Limited.fits figure)) 0 list.now }
+    ensures within { IfSome result (λ i. i < length list.now) }
+{
+    list.iter().position(|figure| !figure.is_within())
+}
+
+/// Refuses where a bad figure was found, with its number.
+pub fn unless_bad(reason: Reason, found: Option<u64>) -> Result<(), Refusal>
+    ensures value { result ≡ unless_bad reason tt found }
+    ensures none { OnOk result (found ≡ None) }
+{
+    match found {
+        None => Ok(()),
+        Some(number) => Err(reason.at(number)),
     }
-    None
 }

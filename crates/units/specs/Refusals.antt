@@ -1,7 +1,8 @@
--- What number and which layer each refusal has.
+-- What a refusal is, and what number and which layer each has.
 use Rattle.std.specs.Prelude.{ℕ}
 use Rattle.units.specs.declared.refusal.Reason.{Reason}
 use Rattle.units.specs.declared.refusal.Reason.TheVariants.{TariffLimit, BookNotOpen, BookInUse, PastTable, NothingThere, PlaceTaken, FigureLimit, FiguresAtOdds, CompanyClosed, CompanyOpen, OrderOut, AllPaid, NotTheOrderOut, VolumeRange, DaysRange, JournalFull, NoExpectedPoints}
+use Rattle.units.specs.declared.refusal.Refusal.{Refusal}
 use Rattle.units.specs.declared.refusal.Layer.{Layer}
 use Rattle.units.specs.declared.refusal.Layer.TheVariants.{Tariff, Tables, Book, Journal}
 
@@ -50,3 +51,6 @@ layer_number Tariff = 1
 layer_number Tables = 2
 layer_number Book = 3
 layer_number Journal = 4
+
+abbrev pub refusal : Reason → ℕ → Refusal
+refusal reason place = record { reason = reason; place = place }

@@ -1,30 +1,21 @@
-use Rattle.std.proofs.Common.{◌≡◌, ℕ, ◌+◌, drop, sym, refl, ap, ◌∙◌, arith}
-use Rattle.limits.specs.First.{first_beyond}
-use Rattle.limits.proofs.Firsts.{beyond_bad, beyond_good, beyond_end}
+use Rattle.std.proofs.Common.{◌≡◌, ℕ, ◌+◌, ◌<◌, length, Some, None, IfSome, Option, sym, ap, subst, ◌∙◌, arith}
+use Rattle.std.specs.Option.{option_map}
+use Rattle.limits.proofs.Firsts.{beyond_at}
 use Rattle.limits.proofs.first_beyond.Goals as goal
 
-pub loop-figure-init : goal.loop-figure-init
-loop-figure-init g c = λ h. (omega arith, refl)
-
-pub returns-then-not-is_within : goal.returns-then-not-is_within
-returns-then-not-is_within g c =
+pub returns-in_err-place : goal.returns-in_err-place
+returns-in_err-place g c =
     λ h.
-    sym (beyond_bad g.F.Limited.fits c.loop-figure.number c.args.list.now c.loop-figure.figure-index c.figure-item.result (omega arith) c.figure-item.is (sym c.if-not-is_within.ensures))
-    ∙ (c.loop-figure.invariant h).1
-
-pub loop-figure-preserved : goal.loop-figure-preserved
-loop-figure-preserved g c =
-    λ h.
-    let p = c.loop-figure.invariant h in
-    let next : c.saturating_add-number.result ≡ c.loop-figure.number + 1 = omega (arith, p.0) in (
-      omega (arith, p.0),
-      ap (λ (n : ℕ). first_beyond g.F.Limited.fits n (drop (c.loop-figure.figure-index + 1) c.args.list.now)) next
-          ∙ sym (beyond_good g.F.Limited.fits c.loop-figure.number c.args.list.now c.loop-figure.figure-index c.figure-item.result (omega arith) c.figure-item.is (sym c.if-not-is_within.ensures))
-          ∙ p.1,
-    )
+    let first = beyond_at g.F.Limited.fits c.args.first c.args.list.now in
+    let place : c.first_outside.result ≡ None = search in
+    let answer : c.from_residual.result ≡ None = search in
+    answer ∙ sym (first ∙ ap (option_map (λ i. c.args.first + i)) (sym c.first_outside.ensures.place ∙ place))
 
 pub returns : goal.returns
 returns g c =
     λ h.
-    sym (beyond_end g.F.Limited.fits c.loop-figure.number c.args.list.now c.loop-figure.figure-index (omega arith))
-    ∙ (c.loop-figure.invariant h).1
+    let first = beyond_at g.F.Limited.fits c.args.first c.args.list.now in
+    let place : c.first_outside.result ≡ Some c.in_ok-place.place = search in
+    let within : c.in_ok-place.place < length c.args.list.now = subst (λ (o : Option ℕ). IfSome o (λ i. i < length c.args.list.now)) place c.first_outside.ensures.within in
+    let sum : c.saturating_add.result ≡ c.args.first + c.in_ok-place.place = omega arith in
+    ap (λ (n : ℕ). Some n) sum ∙ sym (first ∙ ap (option_map (λ i. c.args.first + i)) (sym c.first_outside.ensures.place ∙ place))
