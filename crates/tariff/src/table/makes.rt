@@ -1,23 +1,22 @@
 // How a tariff table is made: from figures that keep every limit, and from no others.
 ghost use Rattle.std.specs.Prelude.{◌≡◌};
-ghost use Rattle.tariff.specs.Made.{made_of, checked};
+ghost use Rattle.limits.specs.Checked.{made_of};
+ghost use Rattle.tariff.specs.Made.{checked};
 
 use crate::figure_limits::first_bad_figure;
 use crate::figures::TariffFigures;
 use crate::table::Tariff;
+use limits::unless_bad;
 use units::refusal::{Reason, Refusal};
 
-impl Tariff {
+impl TryFrom<TariffFigures> for Tariff {
+    type Error = Refusal;
+
+    ghost try_from_gives = { λ figures r. made_of (λ t. t.figures) r ≡ checked figures };
+
     /// The table of these figures, or refusal 1 with the number of the first bad figure.
-    pub fn new(figures: TariffFigures) -> Result<Tariff, Refusal>
-        ensures { made_of result ≡ checked figures }
-    {
-        match first_bad_figure(&figures) {
-            None => Ok(Tariff { figures }),
-            Some(place) => Err(Refusal {
-                reason: Reason::TariffLimit,
-                place,
-            }),
-        }
+    fn try_from(figures: TariffFigures) -> Result<Tariff, Refusal> {
+        unless_bad(Reason::TariffLimit, first_bad_figure(&figures))?;
+        Ok(Tariff { figures })
     }
 }
