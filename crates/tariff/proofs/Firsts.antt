@@ -8,23 +8,6 @@ use Rattle.tariff.specs.declared.figures.Bracket.{Bracket}
 use Rattle.tariff.specs.declared.figures.TariffFigures.{TariffFigures}
 use Rattle.tariff.specs.Limits.{count_fits, first_bad_end, fixed_tests, variable_tests, cost_tests, first_bad_figure}
 
--- ---- The ends of the brackets
-ends_more : (n : ℕ) (bs : List Bracket) (i : ℕ) (d : Bracket) → i + 1 < length bs → first_bad_end n (drop i bs) ≡ cond (ltb (get_or bs i d).end (get_or bs (i + 1) d).end) (first_bad_end (n + 1) (drop (i + 1) bs)) (Some (n + 1))
-ends_more n bs i d l =
-    let e = drop_more bs (i + 1) d l in
-    ap (first_bad_end n) (drop_more bs i d (omega arith) ∙ ap (λ (t : List Bracket). get_or bs i d ∷ t) e)
-    ∙ ap (λ (t : List Bracket). cond (ltb (get_or bs i d).end (get_or bs (i + 1) d).end) (first_bad_end (n + 1) t) (Some (n + 1))) (sym e)
-
-pub ends_bad : (n : ℕ) (bs : List Bracket) (i : ℕ) (d : Bracket) → i + 1 < length bs → (get_or bs (i + 1) d).end ≤ (get_or bs i d).end → first_bad_end n (drop i bs) ≡ Some (n + 1)
-ends_bad n bs i d l h = ends_more n bs i d l ∙ cond-false (ltb (get_or bs i d).end (get_or bs (i + 1) d).end) _ _ (le-ltb _ _ h)
-
-pub ends_good : (n : ℕ) (bs : List Bracket) (i : ℕ) (d : Bracket) → i + 1 < length bs → (get_or bs i d).end < (get_or bs (i + 1) d).end → first_bad_end n (drop i bs) ≡ first_bad_end (n + 1) (drop (i + 1) bs)
-ends_good n bs i d l h = ends_more n bs i d l ∙ cond-true (ltb (get_or bs i d).end (get_or bs (i + 1) d).end) _ _ (lt-ltb _ _ h)
-
-pub ends_last : (n : ℕ) (bs : List Bracket) (i : ℕ) (d : Bracket) → i + 1 ≡ length bs → first_bad_end n (drop i bs) ≡ unless (eqb (get_or bs i d).end 1000000000) n
-ends_last n bs i d l =
-    ap (first_bad_end n) (drop_more bs i d (omega arith) ∙ ap (λ (t : List Bracket). get_or bs i d ∷ t) (drop_all (i + 1) bs (omega arith)))
-
 -- ---- A whole table
 pub many_brackets : (f : TariffFigures) → 8 < f.count → first_bad_figure f ≡ first_of (fixed_tests f)
 unfolding first_bad_figure fixed_tests

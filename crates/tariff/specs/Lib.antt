@@ -4,4 +4,3 @@ pub mod LineNumbers
 pub mod Lines
 pub mod Amounts
 pub mod Bills
-pub mod PlainBills

@@ -1,5 +1,5 @@
 // Which figure of a tariff table is the first beyond its limit.
-ghost use Rattle.std.specs.Prelude.{◌≡◌, ◌≤◌, Bool, false, length, is_some};
+ghost use Rattle.std.specs.Prelude.{◌≡◌, ◌+◌, ◌≤◌, ◌<◌, Bool, false, length, is_some, MatchOption};
 ghost use Rattle.limits.specs.First.{first_beyond, first_of};
 ghost use Rattle.tariff.specs.Limits.{days_fit, commercial_fits, count_fits, rate_fits, coefficient_fits, life_fits, reference_fits, brackets_of, first_bad_end, fixed_tests, variable_tests, cost_tests, first_bad_figure, Within};
 
@@ -12,6 +12,14 @@ impl Limited for Coefficient {
 
     fn is_within(&self) -> bool {
         self.0 <= 2_000_000
+    }
+}
+
+impl Limited for Rate {
+    ghost fits = { rate_fits };
+
+    fn is_within(&self) -> bool {
+        self.0 <= 2_000
     }
 }
 
@@ -41,43 +49,38 @@ fn first_bad<F: Limited>(first: u64, list: &[F]) -> Option<u64>
 
 // The number of the first bad end of brackets whose first end has the number `first`.
 fn first_bad_end(first: u64, brackets: &[Bracket]) -> Option<u64>
-    requires { (first ≤ 1000) × (length brackets.now ≤ 1000) }
+    requires { first + length brackets.now ≤ 2000 }
     ensures { result ≡ first_bad_end first brackets.now }
 {
-    if brackets.len() == 0 {
-        return None;
-    }
-    let last = brackets.len() - 1;
-    for i in 0..last {
-        if brackets[i + 1].end <= brackets[i].end {
-            return Some(first + i as u64 + 1);
+    match brackets {
+        [] => None,
+        [last] => unless(last.end == 1_000_000_000, first),
+        [bracket, rest @ ..] => {
+            if bracket.end < rest[0].end {
+                first_bad_end(first + 1, rest)
+            } else {
+                Some(first + 1)
+            }
         }
     }
-    unless(brackets[last].end == 1_000_000_000, first + last as u64)
 }
 
 fn days_fit(days: u64) -> bool
     ensures { result ≡ days_fit days }
 {
-    days == 365 || days == 366
+    matches!(days, 365 | 366)
 }
 
 fn commercial_fits(price: PointPrice) -> bool
     ensures { result ≡ commercial_fits price }
 {
-    1 <= price.0 && price.0 <= 1_000_000_000
-}
-
-fn rate_fits(rate: Rate) -> bool
-    ensures { result ≡ rate_fits rate }
-{
-    rate.0 <= 2_000
+    (1..=1_000_000_000).contains(&price.0)
 }
 
 fn count_fits(count: usize) -> bool
     ensures { result ≡ count_fits count }
 {
-    1 <= count && count <= 8
+    (1..=8).contains(&count)
 }
 
 // The days, the fixed charges and the number of brackets.
@@ -93,41 +96,57 @@ fn first_bad_fixed(f: &TariffFigures) -> Option<u64>
     ])
 }
 
-// The brackets of a table: the first `count` places.
-pub(crate) fn brackets_of(f: &TariffFigures) -> &[Bracket]
-    requires { f.now.count ≤ 8 }
-    ensures value { result.now ≡ brackets_of f.now }
-    ensures len { length result.now ≡ f.now.count }
-{
-    &f.brackets[0..f.count]
+/// The figures of a table whose brackets have room: those past the number of brackets have numbers.
+#[derive(Clone, Copy)]
+pub(crate) struct Counted<'a> {
+    pub(crate) figures: &'a TariffFigures,
+    ghost few: { figures.now.count ≤ 8 },
 }
 
-// The brackets, the areas' coefficients, GS and UG1.
-fn first_bad_variable(f: &TariffFigures) -> Option<u64>
-    requires { f.now.count ≤ 8 }
-    ensures { result ≡ first_of (variable_tests f.now) }
-{
-    let k = f.count as u64;
-    let brackets = brackets_of(f);
-    first_of(&[
-        first_bad_end(52, brackets),
-        first_bad(52 + k, brackets),
-        first_bad(52 + 2 * k, &f.coefficients),
-        first_bad(60 + 2 * k, &[f.gs, f.ug1]),
-    ])
-}
+impl<'a> Counted<'a> {
+    fn of(figures: &'a TariffFigures) -> Option<Counted<'a>>
+        ensures { MatchOption result (8 < figures.now.count) (λ c. c.figures.now ≡ figures.now) }
+    {
+        if figures.count > 8 {
+            return None;
+        }
+        Some(Counted { figures })
+    }
 
-// The rate of return, the lives and the prices that make up recognised revenue.
-fn first_bad_cost(f: &TariffFigures) -> Option<u64>
-    requires { f.now.count ≤ 8 }
-    ensures { result ≡ first_of (cost_tests f.now) }
-{
-    let k = f.count as u64;
-    first_of(&[
-        unless(rate_fits(f.rate), 62 + 2 * k),
-        first_bad(63 + 2 * k, &f.lives),
-        first_bad(71 + 2 * k, &[f.cou, f.coa, f.telcon, f.avv, f.ins, f.rac]),
-    ])
+    // The brackets of the table: the first `count` places.
+    pub(crate) fn brackets(self) -> &'a [Bracket]
+        ensures value { result.now ≡ brackets_of self.entry.figures.now }
+        ensures len { length result.now ≡ self.entry.figures.now.count }
+    {
+        &self.figures.brackets[..self.figures.count]
+    }
+
+    // The brackets, the areas' coefficients, GS and UG1.
+    fn first_bad_variable(self) -> Option<u64>
+        ensures { result ≡ first_of (variable_tests self.entry.figures.now) }
+    {
+        let f = self.figures;
+        let k = f.count as u64;
+        first_of(&[
+            first_bad_end(52, self.brackets()),
+            first_bad(52 + k, self.brackets()),
+            first_bad(52 + 2 * k, &f.coefficients),
+            first_bad(60 + 2 * k, &[f.gs, f.ug1]),
+        ])
+    }
+
+    // The rate of return, the lives and the prices that make up recognised revenue.
+    fn first_bad_cost(self) -> Option<u64>
+        ensures { result ≡ first_of (cost_tests self.entry.figures.now) }
+    {
+        let f = self.figures;
+        let k = f.count as u64;
+        first_of(&[
+            unless(f.rate.is_within(), 62 + 2 * k),
+            first_bad(63 + 2 * k, &f.lives),
+            first_bad(71 + 2 * k, &[f.cou, f.coa, f.telcon, f.avv, f.ins, f.rac]),
+        ])
+    }
 }
 
 /// The number of the first figure beyond its limit, or at odds with the figure before it; none exactly where every limit is kept.
@@ -138,8 +157,12 @@ pub fn first_bad_figure(f: &TariffFigures) -> Option<u64>
 {
     let fixed = first_bad_fixed(f);
     // past 8 brackets no later figure is asked for
-    if f.count > 8 {
+    let Some(counted) = Counted::of(f) else {
         return fixed;
-    }
-    first_of(&[fixed, first_bad_variable(f), first_bad_cost(f)])
+    };
+    first_of(&[
+        fixed,
+        counted.first_bad_variable(),
+        counted.first_bad_cost(),
+    ])
 }

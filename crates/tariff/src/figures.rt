@@ -2,25 +2,25 @@
 use units::amounts::{PointPrice, VolumePrice};
 
 /// An area's coefficient, in millionths.
-#[derive(Clone, Copy)]
+#[derive(Clone, Copy, Debug, PartialEq, Eq)]
 pub struct Coefficient(pub u64);
 
 /// The rate of return on capital, in ten-thousandths.
-#[derive(Clone, Copy)]
+#[derive(Clone, Copy, Debug, PartialEq, Eq)]
 pub struct Rate(pub u64);
 
 /// The useful life of an asset, in years; 0 where it does not depreciate.
-#[derive(Clone, Copy)]
+#[derive(Clone, Copy, Debug, PartialEq, Eq)]
 pub struct Life(pub u64);
 
 /// A consumption bracket: its end in Smc, and its price before the area's coefficient.
-#[derive(Clone, Copy)]
+#[derive(Clone, Copy, Debug, PartialEq, Eq)]
 pub struct Bracket {
     pub end: u64,
     pub reference: VolumePrice,
 }
 
-#[derive(Clone, Copy)]
+#[derive(Clone, Copy, Debug, PartialEq, Eq)]
 pub struct TariffFigures {
     /// The days of the year.
     pub days: u64,

@@ -1,5 +1,5 @@
 use Rattle.tariff.specs.Limits.{cost_tests}
-use Rattle.tariff.proofs.figure_limits.first_bad_cost.Goals as goal
+use Rattle.tariff.proofs.figure_limits.Counted.first_bad_cost.Goals as goal
 
 pub returns : goal.returns
 unfolding cost_tests
