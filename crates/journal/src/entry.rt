@@ -4,27 +4,26 @@ ghost use Rattle.journal.specs.Kinds.{kind_number};
 
 use units::amounts::Cents;
 
-#[derive(Clone, Copy)]
+/// What an entry records.
+#[derive(Clone, Copy, Debug, Default, PartialEq, Eq)]
 pub enum Kind {
-    Bill,
-    Advance,
-    Balance,
+    #[default]
+    Bill = 1,
+    Advance = 2,
+    Balance = 3,
 }
 
 impl Kind {
+    /// The number that stands for the kind.
     pub fn number(self) -> u8
         ensures { result ≡ kind_number self }
     {
-        match self {
-            Kind::Bill => 1,
-            Kind::Advance => 2,
-            Kind::Balance => 3,
-        }
+        self as u8
     }
 }
 
-/// What a kind of entry lacks is 0.
-#[derive(Clone, Copy)]
+/// What a kind of entry lacks is 0. The default, a bill of nothing, is what an unused place of an `ArrayVec` holds.
+#[derive(Clone, Copy, Debug, Default, PartialEq, Eq)]
 pub struct Entry {
     pub kind: Kind,
     pub company: u8,

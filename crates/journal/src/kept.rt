@@ -7,6 +7,7 @@ ghost use Rattle.std.specs.List.{slice_get};
 use crate::entry::Entry;
 use units::refusal::Refusal;
 
+/// A list of entries that only grows, up to a capacity that stays.
 pub trait Journal {
     // The entries, the first first.
     ghost entries: { Self → List Entry };
@@ -24,9 +25,11 @@ pub trait Journal {
         ensures list { entries self.new ≡ appended (room self.old) (entries self.old) e }
         ensures stays { room self.new ≡ room self.old };
 
+    /// How many entries it holds.
     fn len(&self) -> usize
         ensures { result ≡ length (entries self.now) };
 
+    /// How many entries it can hold.
     fn capacity(&self) -> usize
         ensures { result ≡ room self.now };
 

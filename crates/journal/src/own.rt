@@ -1,15 +1,55 @@
 // A journal of 256 entries within itself.
-ghost use Rattle.std.specs.Prelude.{◌≡◌, ◌≤◌, length};
+ghost use Rattle.std.specs.Prelude.{◌≡◌, ◌≤◌, [], length};
+ghost use Rattle.journal.specs.Bounds.{room_small};
 
 use crate::entry::Entry;
+use crate::kept::Journal;
+use arrayvec::ArrayVec;
+use units::refusal::{Reason, Refusal};
 
-pub mod acts;
-pub mod makes;
-
+/// A journal whose 256 places lie in the value itself.
 #[derive(Drop)]
 pub struct OwnJournal {
-    places: [Entry; 256],
-    used: usize,
-    ghost long: { length places ≡ 256 },
-    ghost within: { used ≤ 256 },
+    entries: ArrayVec<Entry, 256>,
+    ghost within: { length entries.items ≤ 256 },
+}
+
+impl OwnJournal {
+    /// An empty journal.
+    pub fn new() -> OwnJournal
+        ensures empty { ⟦<OwnJournal as Journal>⟧.entries result ≡ [] }
+        ensures room { ⟦<OwnJournal as Journal>⟧.room result ≡ 256 }
+    {
+        OwnJournal {
+            entries: ArrayVec::new(),
+        }
+    }
+}
+
+impl Journal for OwnJournal {
+    ghost entries = { λ j. j.entries.items };
+
+    ghost room = { λ _. 256 };
+
+    ghost bounded = { λ j. j.within };
+
+    ghost small = { λ _. room_small 256 };
+
+    fn append(&mut self, e: Entry) -> Result<(), Refusal> {
+        self.entries
+            .try_push(e)
+            .map_err(|_| Reason::JournalFull.at(self.len() as u64))
+    }
+
+    fn len(&self) -> usize {
+        self.entries.len()
+    }
+
+    fn capacity(&self) -> usize {
+        self.entries.capacity()
+    }
+
+    fn get(&self, place: usize) -> Option<Entry> {
+        self.entries.get(place).copied()
+    }
 }

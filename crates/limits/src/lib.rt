@@ -1,7 +1,7 @@
 // Limits of figures by their kind, and the first bad one of numbered figures.
 #![tactic(auto)]
 
-ghost use Rattle.std.specs.Prelude.{◌≡◌, ◌+◌, ◌^◌, ◌<◌, Bool, not, length, None, IfSome, OnOk};
+ghost use Rattle.std.specs.Prelude.{◌≡◌, ◌+◌, ◌^◌, ◌<◌, Bool, true, not, length, None, IfSome, OnOk};
 ghost use Rattle.std.specs.List.{position_from};
 ghost use Rattle.limits.specs.Checked.{unless_bad};
 ghost use Rattle.limits.specs.First.{point_price_fits, volume_price_fits, among, unless, first_beyond, first_of};
@@ -15,6 +15,13 @@ pub trait Limited {
 
     fn is_within(&self) -> bool
         ensures { result ≡ fits self.now };
+}
+
+/// A figure within its limit.
+#[derive(Drop)]
+pub struct Fitting<F: Limited> {
+    pub figure: F,
+    ghost fits: { F.Limited.fits figure ≡ true },
 }
 
 impl Limited for PointPrice {

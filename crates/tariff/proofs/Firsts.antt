@@ -1,12 +1,10 @@
 -- The first bad figure of a tariff table, step by step.
-use Rattle.std.proofs.Common.{◌≡◌, ℕ, ◌+◌, ◌<◌, ◌≤◌, false, cond, eqb, ltb, leb, List, [], ◌∷◌, length, get_or, drop, is_some, Some, None, sym, ap, ◌∙◌, arith}
-use Rattle.std.proofs.lemmas.List.{drop_more, drop_all}
-use Rattle.std.proofs.lemmas.Bool.{cond-true, cond-false, lt-ltb, le-ltb, lt-leb, and_right}
+use Rattle.std.proofs.Common.{◌≡◌, ◌<◌, false, leb, [], ◌∷◌, is_some, Some, None, ap}
+use Rattle.std.proofs.lemmas.Bool.{cond-false, lt-leb, and_right}
 use Rattle.limits.specs.First.{unless, first_of}
 use Rattle.limits.proofs.Firsts.{of_some, of_any}
-use Rattle.tariff.specs.declared.figures.Bracket.{Bracket}
 use Rattle.tariff.specs.declared.figures.TariffFigures.{TariffFigures}
-use Rattle.tariff.specs.Limits.{count_fits, first_bad_end, fixed_tests, variable_tests, cost_tests, first_bad_figure}
+use Rattle.tariff.specs.Limits.{count_fits, fixed_tests, variable_tests, cost_tests, first_bad_figure}
 
 -- ---- A whole table
 pub many_brackets : (f : TariffFigures) → 8 < f.count → first_bad_figure f ≡ first_of (fixed_tests f)
