@@ -36,9 +36,8 @@ impl Journal for OwnJournal {
     ghost small = { λ _. room_small 256 };
 
     fn append(&mut self, e: Entry) -> Result<(), Refusal> {
-        self.entries
-            .try_push(e)
-            .map_err(|_| Reason::JournalFull.at(self.len() as u64))
+        let pushed = self.entries.try_push(e);
+        pushed.map_err(|_| Reason::JournalFull.at(self.len() as u64))
     }
 
     fn len(&self) -> usize {
