@@ -5,7 +5,7 @@ use Rattle.units.specs.declared.refusal.Refusal.{Refusal}
 use Rattle.limits.specs.First.{among}
 use Rattle.tariff.specs.declared.figures.TariffFigures.{TariffFigures}
 use Rattle.tariff.specs.declared.bill.Bill.{Bill}
-use Rattle.tariff.specs.PlainBills.{bill_at}
+use Rattle.tariff.specs.Bills.{bill_at}
 use Rattle.tables.specs.declared.rows.LocalityRow.{LocalityRow}
 use Rattle.tables.specs.declared.rows.PointRow.{PointRow}
 use Rattle.tables.specs.Filings.{filing_fault}

@@ -3,9 +3,7 @@ use Rattle.std.specs.Prelude.{ℕ, Bool, cond, Some, None, Ok, Err, Option, Resu
 use Rattle.units.specs.declared.refusal.Reason.{Reason}
 use Rattle.units.specs.declared.refusal.Reason.TheVariants.{NothingThere}
 use Rattle.units.specs.declared.refusal.Refusal.{Refusal}
-
-abbrev pub refusal : Reason → ℕ → Refusal
-refusal reason place = record { reason = reason; place = place }
+use Rattle.units.specs.Refusals.{refusal}
 
 -- a test: where it fails the call is refused, else the rest decides
 abbrev pub when : {X : Type 0} → Bool → Reason → ℕ → Result X Refusal → Result X Refusal

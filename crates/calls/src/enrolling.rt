@@ -2,72 +2,64 @@
 ghost use Rattle.std.specs.Prelude.{◌≡◌, ◌<◌, length, OnOk};
 ghost use Rattle.calls.specs.Decisions.{enrolled_within, enrolling};
 
-use crate::places::{company_at, nothing, past, tables_fit};
-use company::terms::Terms;
+use crate::lent::Lent;
+use crate::places::company_at;
 use limits::among;
 use tables::lookup::{locality_at, point_at};
-use tables::rows::{LocalityRow, PointRow};
+use tables::rows::PointRow;
 use units::refusal::{Reason, Refusal};
 
-/// The row of a point that is enrolled in a locality, or the first refusal.
-pub fn enrolling(
-    companies: &[Option<Terms>; 16],
-    localities: &[LocalityRow],
-    points: &[PointRow],
-    point: u64,
-    locality: u64,
-    class: u64,
-    domestic: u64,
-) -> Result<PointRow, Refusal>
-    ensures within { OnOk result (point < length points.now) }
-    ensures answer { result ≡ enrolling companies.now localities.now points.now point locality class domestic }
-{
-    if !tables_fit(localities, points) {
-        return Err(past(0));
-    }
-    if point >= points.len() as u64 {
-        return Err(past(point));
-    }
-    if locality >= localities.len() as u64 {
-        return Err(past(locality));
-    }
-    let Some(seat) = locality_at(localities, locality) else {
-        return Err(nothing(locality));
-    };
-    let company = seat.row().company;
-    if company_at(companies, company).is_none() {
-        return Err(nothing(company));
-    }
-    if point_at(points, point).is_some() {
-        return Err(Refusal {
-            reason: Reason::PlaceTaken,
-            place: point,
-        });
-    }
-    enrolled(locality, class, domestic)
+/// The locality's place, the class and the domestic sign with which a point is enrolled.
+#[derive(Clone, Copy, Debug, PartialEq, Eq)]
+pub struct Enrolment {
+    pub locality: u64,
+    pub class: u64,
+    pub domestic: u64,
 }
 
-// The row of a new point, unless its class or domestic is beyond its limit.
-fn enrolled(locality: u64, class: u64, domestic: u64) -> Result<PointRow, Refusal>
-    ensures { result ≡ enrolled_within locality class domestic }
-{
-    if !among(3, class) {
-        return Err(Refusal {
-            reason: Reason::FigureLimit,
-            place: 1,
-        });
+impl<'a> Lent<'a> {
+    /// The row of a point that is enrolled in a locality, or the first refusal.
+    pub fn enrolling(self, point: u64, enrolment: Enrolment) -> Result<PointRow, Refusal>
+        ensures within { OnOk result (point < length self.entry.points.now) }
+        ensures answer { result ≡ enrolling self.entry.companies.now self.entry.localities.now self.entry.points.now point enrolment.locality enrolment.class enrolment.domestic }
+    {
+        if !self.fits() {
+            return Err(Reason::PastTable.at(0));
+        }
+        if point >= self.points.len() as u64 {
+            return Err(Reason::PastTable.at(point));
+        }
+        let seat = enrolment.locality;
+        if seat >= self.localities.len() as u64 {
+            return Err(Reason::PastTable.at(seat));
+        }
+        let locality = locality_at(self.localities, seat).ok_or(Reason::NothingThere.at(seat))?;
+        let company = locality.row().company;
+        company_at(self.companies, company).ok_or(Reason::NothingThere.at(company))?;
+        if point_at(self.points, point).is_some() {
+            return Err(Reason::PlaceTaken.at(point));
+        }
+        enrolment.row()
     }
-    if domestic > 1 {
-        return Err(Refusal {
-            reason: Reason::FigureLimit,
-            place: 2,
-        });
+}
+
+impl Enrolment {
+    // The row of a new point, unless its class or domestic is beyond its limit.
+    fn row(self) -> Result<PointRow, Refusal>
+        ensures { result ≡ enrolled_within self.locality self.class self.domestic }
+    {
+        if !among(3, self.class) {
+            return Err(Reason::FigureLimit.at(1));
+        }
+        if self.domestic > 1 {
+            return Err(Reason::FigureLimit.at(2));
+        }
+        Ok(PointRow {
+            locality: self.locality,
+            class: self.class,
+            domestic: self.domestic,
+            volume: 0,
+            days: 0,
+        })
     }
-    Ok(PointRow {
-        locality,
-        class,
-        domestic,
-        volume: 0,
-        days: 0,
-    })
 }

@@ -2,12 +2,12 @@
 ghost use Rattle.std.specs.Prelude.{◌≡◌, ◌<◌, length, OnOk};
 ghost use Rattle.calls.specs.Decisions.{filing};
 
-use crate::places::{company_at, nothing, past};
+use crate::places::company_at;
 use company::terms::Terms;
 use tables::filing::filing_fault;
 use tables::lookup::locality_at;
 use tables::rows::LocalityRow;
-use units::refusal::Refusal;
+use units::refusal::{Reason, Refusal};
 
 /// The row that is filed at a place, or the first refusal.
 pub fn filing(
@@ -20,21 +20,16 @@ pub fn filing(
     ensures answer { result ≡ filing companies.now localities.now place row }
 {
     if localities.len() > 256 {
-        return Err(past(0));
+        return Err(Reason::PastTable.at(0));
     }
     if place >= localities.len() as u64 {
-        return Err(past(place));
+        return Err(Reason::PastTable.at(place));
     }
     if row.company >= 16 {
-        return Err(past(row.company));
+        return Err(Reason::PastTable.at(row.company));
     }
-    if company_at(companies, row.company).is_none() {
-        return Err(nothing(row.company));
-    }
-    let old = match locality_at(localities, place) {
-        Some(locality) => Some(locality.row()),
-        None => None,
-    };
+    company_at(companies, row.company).ok_or(Reason::NothingThere.at(row.company))?;
+    let old = locality_at(localities, place).map(|locality| locality.row());
     match filing_fault(&old, &row) {
         Some(fault) => Err(fault),
         None => Ok(row),

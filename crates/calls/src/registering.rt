@@ -3,7 +3,7 @@ ghost use Rattle.std.specs.Prelude.{◌≡◌, ◌<◌, OnOk};
 ghost use Rattle.limits.specs.Checked.{made_of};
 ghost use Rattle.calls.specs.Decisions.{registering};
 
-use crate::places::{company_at, past};
+use crate::places::company_at;
 use company::figures::TermsFigures;
 use company::terms::Terms;
 use units::refusal::{Reason, Refusal};
@@ -18,13 +18,10 @@ pub fn registering(
     ensures answer { made_of (λ t. t.figures) result ≡ registering companies.now company figures }
 {
     if company >= 16 {
-        return Err(past(company));
+        return Err(Reason::PastTable.at(company));
     }
     if company_at(companies, company).is_some() {
-        return Err(Refusal {
-            reason: Reason::PlaceTaken,
-            place: company,
-        });
+        return Err(Reason::PlaceTaken.at(company));
     }
     Terms::new(figures)
 }

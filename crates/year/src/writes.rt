@@ -5,14 +5,15 @@ ghost use Rattle.tables.specs.Blank.{no_point};
 ghost use Rattle.calls.specs.Decisions as decision;
 ghost use Rattle.year.specs.Tables.{written, billed_row};
 
-use calls::billing::billing;
-use calls::enrolling::enrolling;
+use calls::enrolling::Enrolment;
 use calls::filing::filing;
+use calls::lent::Lent;
 use calls::registering::registering;
 use company::figures::TermsFigures;
 use company::terms::Terms;
 use tables::rows::{LocalityRow, PointRow};
 use tariff::bill::Bill;
+use tariff::supply::Change;
 use tariff::table::Tariff;
 use units::refusal::Refusal;
 
@@ -51,16 +52,17 @@ pub fn enrol(
     localities: &[LocalityRow],
     points: &mut [PointRow],
     point: u64,
-    locality: u64,
-    class: u64,
-    domestic: u64,
+    enrolment: Enrolment,
 ) -> Result<PointRow, Refusal>
-    ensures answer { result ≡ decision.enrolling companies.now localities.now points.old point locality class domestic }
+    ensures answer { result ≡ decision.enrolling companies.now localities.now points.old point enrolment.locality enrolment.class enrolment.domestic }
     ensures after { points.new ≡ written (λ p. p) points.old point result }
 {
-    let row = enrolling(
-        companies, localities, points, point, locality, class, domestic,
-    )?;
+    let lent = Lent {
+        companies,
+        localities,
+        points: &*points,
+    };
+    let row = lent.enrolling(point, enrolment)?;
     points[point as usize] = row;
     Ok(row)
 }
@@ -72,13 +74,17 @@ pub fn bill(
     localities: &[LocalityRow],
     points: &mut [PointRow],
     point: u64,
-    volume: i64,
-    days: i64,
+    change: Change,
 ) -> Result<Bill, Refusal>
-    ensures answer { result ≡ decision.billing tariff.now.figures companies.now localities.now points.old point volume days }
+    ensures answer { result ≡ decision.billing tariff.now.figures companies.now localities.now points.old point change.volume change.days }
     ensures after { points.new ≡ written (billed_row (slice_index_or points.old point no_point)) points.old point result }
 {
-    let bill = billing(tariff, companies, localities, points, point, volume, days)?;
+    let lent = Lent {
+        companies,
+        localities,
+        points: &*points,
+    };
+    let bill = lent.billing(tariff, point, change)?;
     let row = points[point as usize];
     points[point as usize] = PointRow {
         volume: bill.volume,

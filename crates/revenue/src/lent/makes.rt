@@ -11,8 +11,8 @@ impl<'a> Tables<'a> {
         ensures points { result.points.now ≡ take 65536 points.now }
     {
         Tables {
-            localities: &localities[0..localities.len().min(256)],
-            points: &points[0..points.len().min(65536)],
+            localities: &localities[..localities.len().min(256)],
+            points: &points[..points.len().min(65536)],
         }
     }
 }

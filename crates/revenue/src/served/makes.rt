@@ -27,12 +27,9 @@ impl Served {
         ensures test { is_some result ≡ (is_some (served_within tariff.now.figures regime) && is_some (served_within tariff.now.figures startup)) }
         ensures kept { IfSome result (λ s. (s.regime.0 ≡ served_for tariff.now.figures regime) × (s.startup.0 ≡ served_for tariff.now.figures startup)) }
     {
-        let Some(regime) = served_for(tariff, regime) else {
-            return None;
-        };
-        let Some(startup) = served_for(tariff, startup) else {
-            return None;
-        };
-        Some(Served { regime, startup })
+        Some(Served {
+            regime: served_for(tariff, regime)?,
+            startup: served_for(tariff, startup)?,
+        })
     }
 }

@@ -1,0 +1,23 @@
+// What the calls on points read.
+ghost use Rattle.std.specs.Prelude.{◌≡◌};
+ghost use Rattle.calls.specs.Decisions.{tables_fit};
+
+use company::terms::Terms;
+use tables::rows::{LocalityRow, PointRow};
+
+/// The sixteen companies, and the two tables that are lent to a book.
+#[derive(Clone, Copy)]
+pub struct Lent<'a> {
+    pub companies: &'a [Option<Terms>; 16],
+    pub localities: &'a [LocalityRow],
+    pub points: &'a [PointRow],
+}
+
+impl<'a> Lent<'a> {
+    /// Whether neither table is longer than it may be.
+    pub(crate) fn fits(self) -> bool
+        ensures { result ≡ tables_fit self.entry.localities.now self.entry.points.now }
+    {
+        self.localities.len() <= 256 && self.points.len() <= 65536
+    }
+}
