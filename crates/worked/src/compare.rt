@@ -1,41 +1,48 @@
-// A count of compared figures; each that differs is printed.
+// A table of figures, compared line by line.
+use std::fs;
 
-#[derive(Clone, Copy)]
-pub struct Tally {
-    pub agree: u64,
-    pub differ: u64,
+/// A count of compared figures; each that differs is printed.
+pub struct Tally<'a> {
+    rt: &'a HostRuntime,
+    line: u64,
+    agree: u64,
+    differ: u64,
 }
 
-impl Tally {
-    pub fn new() -> Tally {
-        Tally {
-            agree: 0,
-            differ: 0,
-        }
-    }
-
+impl<'a> Tally<'a> {
     /// Counts a figure, and prints it where it is not the expected one.
-    pub fn compare(
-        &mut self,
-        rt: &HostRuntime,
-        line: u64,
-        what: &str,
-        found: u64,
-        expected: u64,
-    ) -> anyhow::Result<()> {
+    pub fn compare(&mut self, what: &str, found: u64, expected: u64) -> anyhow::Result<()> {
         if found == expected {
             self.agree = self.agree.saturating_add(1);
-        } else {
-            self.differ = self.differ.saturating_add(1);
-            println!(rt; "  line {line}: {what} is {found}, expected {expected}")?;
+            return Ok(());
         }
+        self.differ = self.differ.saturating_add(1);
+        println!(self.rt; "  line {}: {what} is {found}, expected {expected}", self.line)?;
         Ok(())
     }
+}
 
-    pub fn print(&self, rt: &HostRuntime, name: &str) -> anyhow::Result<()> {
-        let agree = self.agree;
-        let differ = self.differ;
-        println!(rt; "{name}: {agree} figures agree, {differ} differ")?;
-        Ok(())
+/// Compares the lines of a table, but for its comments, and prints how many figures agree.
+pub fn compare_table<F: FnMut(&mut Tally<'_>, &str) -> anyhow::Result<()>>(
+    rt: &HostRuntime,
+    name: &str,
+    mut compare_line: F,
+) -> anyhow::Result<()>
+    requires { F.IsAlwaysCallable compare_line }
+{
+    let text = fs::read_to_string(rt, name)?;
+    let mut tally = Tally {
+        rt,
+        line: 0,
+        agree: 0,
+        differ: 0,
+    };
+    for (number, line) in (1u64..).zip(text.as_str().lines()) {
+        if !line.starts_with('#') {
+            tally.line = number;
+            compare_line(&mut tally, line)?;
+        }
     }
+    println!(rt; "{name}: {} figures agree, {} differ", tally.agree, tally.differ)?;
+    Ok(())
 }

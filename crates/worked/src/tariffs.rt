@@ -1,14 +1,38 @@
 // Tariff tables from their figures in order.
 use crate::numbers::Numbers;
+use anyhow::anyhow;
+use std::alloc::Global;
+use std::array;
+use std::fs;
 use tariff::figures::{Bracket, Coefficient, Life, Rate, TariffFigures};
+use tariff::table::Tariff;
 use units::amounts::{PointPrice, VolumePrice};
 
-fn point_prices(numbers: &mut Numbers) -> [PointPrice; 24] {
-    let mut prices = [PointPrice(0); 24];
-    for price in prices.iter_mut() {
-        *price = PointPrice(numbers.take());
+/// The tables of a file.
+pub fn tariffs(rt: &HostRuntime) -> anyhow::Result<Vec<Tariff>> {
+    let heap = rt.alloc();
+    let text = fs::read_to_string(rt, "tariffs.txt")?;
+    let mut tables = Vec::new(heap);
+    for line in text.as_str().lines() {
+        if !line.starts_with('#') {
+            tables.push(tariff(heap, line)?)?;
+        }
     }
-    prices
+    Ok(tables)
+}
+
+/// The table with a number, from 0.
+pub fn table_at(tables: &[Tariff], number: u64) -> anyhow::Result<&Tariff> {
+    tables
+        .get(number as usize)
+        .ok_or(anyhow!("no such tariff table"))
+}
+
+fn tariff(heap: Global, line: &str) -> anyhow::Result<Tariff> {
+    let mut numbers = Numbers::of(heap, line)?;
+    let figures = tariff_figures(&mut numbers);
+    numbers.finish()?;
+    Ok(Tariff::try_from(figures)?)
 }
 
 fn brackets(numbers: &mut Numbers, count: usize) -> [Bracket; 8] {
@@ -25,26 +49,10 @@ fn brackets(numbers: &mut Numbers, count: usize) -> [Bracket; 8] {
     brackets
 }
 
-fn coefficients(numbers: &mut Numbers) -> [Coefficient; 8] {
-    let mut coefficients = [Coefficient(0); 8];
-    for coefficient in coefficients.iter_mut() {
-        *coefficient = Coefficient(numbers.take());
-    }
-    coefficients
-}
-
-fn lives(numbers: &mut Numbers) -> [Life; 8] {
-    let mut lives = [Life(0); 8];
-    for life in lives.iter_mut() {
-        *life = Life(numbers.take());
-    }
-    lives
-}
-
-pub fn tariff_figures(numbers: &mut Numbers) -> TariffFigures {
+fn tariff_figures(numbers: &mut Numbers) -> TariffFigures {
     let days = numbers.take();
-    let distribution = point_prices(numbers);
-    let metering = point_prices(numbers);
+    let distribution = array::from_fn(|_| PointPrice(numbers.take()));
+    let metering = array::from_fn(|_| PointPrice(numbers.take()));
     let commercial = PointPrice(numbers.take());
     let count = numbers.take() as usize;
     TariffFigures {
@@ -54,11 +62,11 @@ pub fn tariff_figures(numbers: &mut Numbers) -> TariffFigures {
         commercial,
         count,
         brackets: brackets(numbers, count),
-        coefficients: coefficients(numbers),
+        coefficients: array::from_fn(|_| Coefficient(numbers.take())),
         gs: VolumePrice(numbers.take()),
         ug1: VolumePrice(numbers.take()),
         rate: Rate(numbers.take()),
-        lives: lives(numbers),
+        lives: array::from_fn(|_| Life(numbers.take())),
         cou: PointPrice(numbers.take()),
         coa: PointPrice(numbers.take()),
         telcon: PointPrice(numbers.take()),
