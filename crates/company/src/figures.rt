@@ -1,5 +1,12 @@
 // The figures that a company registers: plain numbers, not yet held to their limits.
-#[derive(Clone, Copy)]
+ghost use Rattle.std.specs.Prelude.{◌≡◌};
+
+use limits::{among, first_of, unless};
+
+// Of a yearly advance, on either side of 0, and of a yearly cost.
+const MOST_CENTS: u64 = 1_000_000_000_000;
+
+#[derive(Clone, Copy, Debug, PartialEq, Eq)]
 pub struct TermsFigures {
     /// The yearly advance, in cents; where it is negative the company pays.
     pub advance: i64,
@@ -14,4 +21,40 @@ pub struct TermsFigures {
     pub density: u64,
     /// The award year.
     pub year: u64,
+}
+
+impl TermsFigures {
+    ghost use Rattle.limits.specs.First.{first_of};
+    ghost use Rattle.company.specs.Terms.{payment_tests, trait_tests, first_bad_term};
+
+    /// The number of the first figure beyond its limit.
+    #[tactic(auto, unfolding(crate::specs::Terms::first_bad_term))]
+    pub(crate) fn first_bad(&self) -> Option<u64>
+        ensures { result ≡ first_bad_term self.now }
+    {
+        first_of(&[self.first_bad_payment(), self.first_bad_trait()])
+    }
+
+    #[tactic(auto, unfolding(crate::specs::Terms::payment_tests))]
+    fn first_bad_payment(&self) -> Option<u64>
+        ensures { result ≡ first_of (payment_tests self.now) }
+    {
+        first_of(&[
+            unless(self.advance.unsigned_abs() <= MOST_CENTS, 1),
+            unless(among(12, self.instalments), 2),
+            unless(self.verification <= MOST_CENTS, 3),
+            unless(self.central <= MOST_CENTS, 4),
+        ])
+    }
+
+    #[tactic(auto, unfolding(crate::specs::Terms::trait_tests))]
+    fn first_bad_trait(&self) -> Option<u64>
+        ensures { result ≡ first_of (trait_tests self.now) }
+    {
+        first_of(&[
+            unless(self.points <= 100_000_000, 5),
+            unless(among(3, self.density), 6),
+            unless(among(12, self.year), 7),
+        ])
+    }
 }

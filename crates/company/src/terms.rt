@@ -1,13 +1,37 @@
-// The terms of a company: what it registered, within every limit.
+// The terms of a company: figures that keep every limit, and no others.
 ghost use Rattle.std.specs.Prelude.{◌≡◌, false, is_some};
-ghost use Rattle.company.specs.Terms.{first_bad_term};
+ghost use Rattle.limits.specs.Checked.{made_of};
+ghost use Rattle.company.specs.Terms.{first_bad_term, checked, Within};
 
 use crate::figures::TermsFigures;
+use limits::unless_bad;
+use units::refusal::{Reason, Refusal};
 
-pub mod makes;
-
-#[derive(Clone, Copy)]
+/// What a company registered, within every limit.
+#[derive(Clone, Copy, Debug, PartialEq, Eq)]
 pub struct Terms {
     pub(crate) figures: TermsFigures,
     ghost lawful: { is_some (first_bad_term figures) ≡ false },
+}
+
+/// The refusal is by number 7, with the number of the first bad figure.
+impl TryFrom<TermsFigures> for Terms {
+    type Error = Refusal;
+
+    ghost try_from_gives = { λ figures r. made_of (λ t. t.figures) r ≡ checked figures };
+
+    fn try_from(figures: TermsFigures) -> Result<Self, Refusal> {
+        unless_bad(Reason::FigureLimit, figures.first_bad())?;
+        Ok(Terms { figures })
+    }
+}
+
+impl Terms {
+    /// All figures, each within its limit.
+    pub fn figures(&self) -> &TermsFigures
+        ensures value { result.now ≡ self.now.figures }
+        ensures within { Within result.now }
+    {
+        &self.figures
+    }
 }

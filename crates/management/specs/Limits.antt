@@ -1,5 +1,5 @@
 -- That no rule answers more than 10^9: no definition, only the facts that the rules' ghost members cite.
-use Rattle.std.specs.Prelude.{◌≡◌, ℕ, ◌+◌, ◌-◌, ◌≤◌, false, List, is_some, ◌==◌, nat_le, slice_index_or, refl}
+use Rattle.std.specs.Prelude.{◌≡◌, ℕ, ◌+◌, ◌-◌, ◌≤◌, false, List, is_some, nat_le, slice_index_or, refl}
 use Rattle.std.proofs.Common.{mul-le-mul_right, arith}
 use Rattle.std.proofs.lemmas.Bool.{leb-true, cond_both}
 use Rattle.limits.specs.First.{point_price_fits, first_beyond}
@@ -11,16 +11,14 @@ use Rattle.management.specs.declared.size.Size.TheVariants.{Medium, Large}
 use Rattle.management.specs.declared.weights.Weights.{Weights}
 use Rattle.management.specs.Prices.{price_of}
 use Rattle.management.specs.Sizes.{figure, size_of}
-use Rattle.management.specs.Weights.{weights_of, quarters, weighed, mean}
+use Rattle.management.specs.Weights.{weights_of, weighed, mean}
 use Rattle.management.specs.Rules.{municipal_price, area_wide_price}
 
 pub at_limited : (prices : List PointPrice) → is_some (first_beyond point_price_fits 1 prices) ≡ false → (k : ℕ) → (slice_index_or prices k (record { 0 = 0 })).0 ≤ 1000000000
 at_limited prices within k = leb-true _ _ (fits_at point_price_fits (record { 0 = 0 }) refl 1 prices within k)
 
 pub four_quarters : (year : ℕ) → (weights_of year).0 + (weights_of year).1 ≡ 4
-four_quarters year =
-    let Four : Weights → Type 0 = λ w. w.0 + w.1 ≡ 4 in
-    cond_both (nat_le year 4) (quarters 2 2) _ Four (λ _. refl) (λ _. cond_both (year == 5) (quarters 1 3) (quarters 0 4) Four (λ _. refl) (λ _. refl))
+four_quarters year = grind arith
 
 pub mean_limited : (w : Weights) (medium large : ℕ) → w.0 + w.1 ≡ 4 → medium ≤ 1000000000 → large ≤ 1000000000 → mean w medium large ≤ 1000000000
 mean_limited w medium large four m l =

@@ -1,7 +1,7 @@
 -- What figures the traits of a company may have.
 use Rattle.std.specs.Prelude.{ℕ, Bool, ◌&&◌, nat_le}
+use Rattle.limits.specs.First.{among}
 
 -- at most 10^8 points for class, density 1 to 3, award year 1 to 12
 abbrev pub within_limits : ℕ → ℕ → ℕ → Bool
-within_limits points density year =
-    nat_le points 100000000 && nat_le 1 density && nat_le density 3 && nat_le 1 year && nat_le year 12
+within_limits points density year = nat_le points 100000000 && among 3 density && among 12 year

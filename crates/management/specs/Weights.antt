@@ -1,5 +1,5 @@
 -- How much of the medium and of the large price counts.
-use Rattle.std.specs.Prelude.{ℕ, ◌+◌, ◌*◌, Bool, true, cond, ◌&&◌, List, [], ◌∷◌, ◌==◌, nat_le}
+use Rattle.std.specs.Prelude.{ℕ, ◌+◌, ◌*◌, cond, ◌==◌, nat_le}
 use Rattle.rounding.specs.Frac.{over}
 use Rattle.rounding.specs.Rounding.{rounded}
 use Rattle.management.specs.declared.weights.Weights.{Weights}
@@ -11,14 +11,6 @@ quarters medium large = record { 0 = medium; 1 = large }
 -- by award year: 2 and 2 up to year 4, 1 and 3 in year 5, 0 and 4 from year 6 on
 abbrev pub weights_of : ℕ → Weights
 weights_of year = cond (nat_le year 4) (quarters 2 2) (cond (year == 5) (quarters 1 3) (quarters 0 4))
-
-abbrev pub same : Weights → Weights → Bool
-same v w = v.0 == w.0 && v.1 == w.1
-
--- each entry of a table is the rule's, where the first entry is that of award year n
-abbrev pub follows_rule : ℕ → List Weights → Bool
-follows_rule n [] = true
-follows_rule n (w ∷ ws) = same w (weights_of n) && follows_rule (n + 1) ws
 
 -- the medium and the large price by their weights, added up
 abbrev pub weighed : Weights → ℕ → ℕ → ℕ

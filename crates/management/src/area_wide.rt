@@ -1,7 +1,8 @@
 // The area-wide rule: the large price, reached in steps by award year where the company is not large.
 ghost use Rattle.std.specs.Prelude.{◌≡◌};
+ghost use Rattle.limits.specs.Checked.{made_of};
 ghost use Rattle.management.specs.Limits.{area_wide_limited};
-ghost use Rattle.management.specs.Prices.{checked, prices_of};
+ghost use Rattle.management.specs.Prices.{checked};
 ghost use Rattle.management.specs.Rules.{area_wide_price};
 
 use crate::prices::Prices;
@@ -12,18 +13,22 @@ use crate::weights::Weights;
 use units::amounts::PointPrice;
 use units::refusal::Refusal;
 
-#[derive(Clone, Copy)]
+/// Nine prices, of which each company has the large one in the end.
+// A type beside Municipal, not one generic over the formula: all that they share is in Prices, and a marker type for each would be longer.
+#[derive(Clone, Copy, Debug, PartialEq, Eq)]
 pub struct AreaWide {
     prices: Prices,
 }
 
-impl AreaWide {
-    /// The area-wide rule of these prices, unless one is beyond the limit: the refusal names the first such.
-    pub fn new(prices: [PointPrice; 9]) -> Result<AreaWide, Refusal>
-        ensures { prices_of (λ a. a.prices.list) result ≡ checked prices }
-    {
+/// The refusal names the first price beyond the limit.
+impl TryFrom<[PointPrice; 9]> for AreaWide {
+    type Error = Refusal;
+
+    ghost try_from_gives = { λ prices r. made_of (λ a. a.prices.list) r ≡ checked prices };
+
+    fn try_from(prices: [PointPrice; 9]) -> Result<Self, Refusal> {
         Ok(AreaWide {
-            prices: Prices::new(prices)?,
+            prices: Prices::try_from(prices)?,
         })
     }
 }
@@ -36,9 +41,9 @@ impl Management for AreaWide {
     fn operating_price(&self, traits: Traits) -> PointPrice {
         let large = self.prices.of(Size::Large, traits);
         if traits.points > 300_000 {
-            return large;
+            return large.price;
         }
         let medium = self.prices.of(Size::Medium, traits);
-        Weights::of(traits).mean(medium, large)
+        Weights::of(traits).mean(medium, large).price
     }
 }

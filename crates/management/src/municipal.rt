@@ -1,7 +1,8 @@
 // The municipal rule: the price of the company's own size.
 ghost use Rattle.std.specs.Prelude.{◌≡◌};
+ghost use Rattle.limits.specs.Checked.{made_of};
 ghost use Rattle.management.specs.Limits.{municipal_limited};
-ghost use Rattle.management.specs.Prices.{checked, prices_of};
+ghost use Rattle.management.specs.Prices.{checked};
 ghost use Rattle.management.specs.Rules.{municipal_price};
 
 use crate::prices::Prices;
@@ -11,18 +12,21 @@ use crate::traits::Traits;
 use units::amounts::PointPrice;
 use units::refusal::Refusal;
 
-#[derive(Clone, Copy)]
+/// Nine prices, of which each company has that of its own size.
+#[derive(Clone, Copy, Debug, PartialEq, Eq)]
 pub struct Municipal {
     prices: Prices,
 }
 
-impl Municipal {
-    /// The municipal rule of these prices, unless one is beyond the limit: the refusal names the first such.
-    pub fn new(prices: [PointPrice; 9]) -> Result<Municipal, Refusal>
-        ensures { prices_of (λ m. m.prices.list) result ≡ checked prices }
-    {
+/// The refusal names the first price beyond the limit.
+impl TryFrom<[PointPrice; 9]> for Municipal {
+    type Error = Refusal;
+
+    ghost try_from_gives = { λ prices r. made_of (λ m. m.prices.list) r ≡ checked prices };
+
+    fn try_from(prices: [PointPrice; 9]) -> Result<Self, Refusal> {
         Ok(Municipal {
-            prices: Prices::new(prices)?,
+            prices: Prices::try_from(prices)?,
         })
     }
 }
@@ -33,6 +37,6 @@ impl Management for Municipal {
     ghost limited = { λ m points density year. municipal_limited m.prices.list m.prices.within points density };
 
     fn operating_price(&self, traits: Traits) -> PointPrice {
-        self.prices.of(Size::of(traits.points), traits)
+        self.prices.of(Size::of(traits.points), traits).price
     }
 }

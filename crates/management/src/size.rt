@@ -4,11 +4,12 @@ ghost use Rattle.management.specs.Sizes.{size_of, figure};
 
 use crate::traits::Traits;
 
-#[derive(Clone, Copy)]
+/// The sizes by their numbers.
+#[derive(Clone, Copy, Debug, PartialEq, Eq)]
 pub enum Size {
-    Small,
-    Medium,
-    Large,
+    Small = 1,
+    Medium = 2,
+    Large = 3,
 }
 
 impl Size {
@@ -16,12 +17,10 @@ impl Size {
     pub fn of(points: u64) -> Size
         ensures { result ≡ size_of points }
     {
-        if points <= 50_000 {
-            Size::Small
-        } else if points <= 300_000 {
-            Size::Medium
-        } else {
-            Size::Large
+        match points {
+            ..=50_000 => Size::Small,
+            ..=300_000 => Size::Medium,
+            _ => Size::Large,
         }
     }
 
@@ -29,10 +28,6 @@ impl Size {
     pub fn figure(self, traits: Traits) -> u64
         ensures { result ≡ figure self traits.density }
     {
-        match self {
-            Size::Small => traits.density,
-            Size::Medium => 3 + traits.density,
-            Size::Large => 6 + traits.density,
-        }
+        3 * (self as u64 - 1) + traits.density
     }
 }

@@ -2,8 +2,10 @@
 ghost use Rattle.std.specs.Prelude.{◌≡◌, ◌≤◌, is_some, IfSome};
 ghost use Rattle.management.specs.Traits.{within_limits};
 
+use limits::among;
+
 /// Points for class, density and award year, each within its limits.
-#[derive(Clone, Copy)]
+#[derive(Clone, Copy, Debug, PartialEq, Eq)]
 pub struct Traits {
     pub points: u64,
     pub density: u64,
@@ -21,7 +23,7 @@ impl Traits {
         ensures test { is_some result ≡ within_limits points density year }
         ensures figures { IfSome result (λ t. (t.points ≡ points) × (t.density ≡ density) × (t.year ≡ year)) }
     {
-        if points <= 100_000_000 && 1 <= density && density <= 3 && 1 <= year && year <= 12 {
+        if points <= 100_000_000 && among(3, density) && among(12, year) {
             Some(Traits {
                 points,
                 density,

@@ -7,12 +7,15 @@ use tariff::supply::{Change, Reading, Supply};
 use tariff::table::Tariff;
 
 fn supply(numbers: &mut Numbers) -> anyhow::Result<Supply> {
-    Supply::new(numbers.take(), numbers.take(), numbers.take() == 1)
-        .ok_or(anyhow!("an area or class beyond its limits"))
+    Supply::new(numbers.take(), numbers.take(), numbers.take() == 1).ok_or(anyhow!(
+        "an area or class beyond its limits"
+    ))
 }
 
 fn reading(numbers: &mut Numbers) -> anyhow::Result<Reading> {
-    Reading::new(numbers.take(), numbers.take()).ok_or(anyhow!("a volume or days beyond their limits"))
+    Reading::new(numbers.take(), numbers.take()).ok_or(anyhow!(
+        "a volume or days beyond their limits"
+    ))
 }
 
 fn compare_line(
@@ -35,7 +38,11 @@ fn compare_line(
 pub fn run(rt: &HostRuntime) -> anyhow::Result<()> {
     let tables = tariffs(rt)?;
     compare_table(rt, "lines.txt", |tally, line| {
-        compare_line(tally, tables.as_slice(), &mut Numbers::of(rt.alloc(), line)?)
+        compare_line(
+            tally,
+            tables.as_slice(),
+            &mut Numbers::of(rt.alloc(), line)?,
+        )
     })
 }
 

@@ -2,6 +2,7 @@
 use std::fs;
 
 /// A count of compared figures; each that differs is printed.
+#[derive(Drop)]
 pub struct Tally<'a> {
     rt: &'a HostRuntime,
     line: u64,
@@ -17,7 +18,10 @@ impl<'a> Tally<'a> {
             return Ok(());
         }
         self.differ = self.differ.saturating_add(1);
-        println!(self.rt; "  line {}: {what} is {found}, expected {expected}", self.line)?;
+        println!(self.rt;
+            "  line {}: {what} is {found}, expected {expected}",
+            self.line
+        )?;
         Ok(())
     }
 }
@@ -43,6 +47,9 @@ pub fn compare_table<F: FnMut(&mut Tally<'_>, &str) -> anyhow::Result<()>>(
             compare_line(&mut tally, line)?;
         }
     }
-    println!(rt; "{name}: {} figures agree, {} differ", tally.agree, tally.differ)?;
+    println!(rt;
+        "{name}: {} figures agree, {} differ",
+        tally.agree, tally.differ
+    )?;
     Ok(())
 }

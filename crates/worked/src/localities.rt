@@ -28,7 +28,8 @@ fn locality(numbers: &mut Numbers) -> anyhow::Result<Locality> {
         smart: numbers.take(),
         rows: array::from_fn(|_| asset_row(numbers)),
     };
-    row.locality().ok_or(anyhow!("a locality beyond its limits"))
+    row.locality()
+        .ok_or(anyhow!("a locality beyond its limits"))
 }
 
 // The unit component; where it is refused, the number of the refusal in place of an answer.
@@ -47,10 +48,22 @@ fn compare_line(
     let table = table_at(tables, numbers.take())?;
     let locality = locality(numbers)?;
     for (what, found) in [
-        ("distribution cost", locality.capital_cost(table, Service::Distribution)),
-        ("metering cost", locality.capital_cost(table, Service::Metering)),
-        ("distribution component", component(&locality, table, Service::Distribution)),
-        ("metering component", component(&locality, table, Service::Metering)),
+        (
+            "distribution cost",
+            locality.capital_cost(table, Service::Distribution),
+        ),
+        (
+            "metering cost",
+            locality.capital_cost(table, Service::Metering),
+        ),
+        (
+            "distribution component",
+            component(&locality, table, Service::Distribution),
+        ),
+        (
+            "metering component",
+            component(&locality, table, Service::Metering),
+        ),
         ("locality", locality.figure(table)),
     ] {
         tally.compare(what, found, numbers.take())?;
@@ -61,6 +74,10 @@ fn compare_line(
 pub fn run(rt: &HostRuntime) -> anyhow::Result<()> {
     let tables = tariffs(rt)?;
     compare_table(rt, "localities.txt", |tally, line| {
-        compare_line(tally, tables.as_slice(), &mut Numbers::of(rt.alloc(), line)?)
+        compare_line(
+            tally,
+            tables.as_slice(),
+            &mut Numbers::of(rt.alloc(), line)?,
+        )
     })
 }

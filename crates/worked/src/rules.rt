@@ -16,7 +16,7 @@ fn traits(points: u64, density: u64, year: u64) -> anyhow::Result<Traits> {
 }
 
 // The price by the rule of nine prices.
-fn price_by<M: Management + TryFrom<[PointPrice; 9], Error = Refusal>>(
+fn price_by<M: Management + TryFrom<[PointPrice; 9], Error = Refusal> + Drop>(
     prices: [PointPrice; 9],
     traits: Traits,
 ) -> anyhow::Result<u64> {

@@ -2,8 +2,7 @@
 use crate::numbers::Numbers;
 use anyhow::anyhow;
 use std::alloc::Global;
-use std::array;
-use std::fs;
+use std::{array, fs};
 use tariff::figures::{Bracket, Coefficient, Life, Rate, TariffFigures};
 use tariff::table::Tariff;
 use units::amounts::{PointPrice, VolumePrice};

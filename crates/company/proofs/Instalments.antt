@@ -1,16 +1,8 @@
--- Bounds of the instalments, and that they make up the advance.
-use Rattle.std.proofs.Common.{◌≡◌, ℕ, zero, suc, ◌+◌, ◌-◌, ◌*◌, ◌≤◌, ℤ, pos, negsuc, ◌*ℤ◌, neg_ℤ, nat_abs, ◌≤ℤ◌, ap, ◌∙◌, mul-le-mul, arith}
+-- The instalments make up the advance.
+use Rattle.std.proofs.Common.{◌≡◌, ℕ, zero, suc, ◌+◌, ◌-◌, ◌*◌, ◌≤◌, ℤ, pos, negsuc, ◌*ℤ◌, ap, ◌∙◌, arith}
 use native.Mathlib.Nat.{zero-div, mul-div_cancel_left, div-eq_of_lt-le}
 use borrow.Author.Differences.{ints}
 use Rattle.company.specs.Instalments.{floor, paid_up_to, instalments_to, AddUp}
-
--- z lies between -m and m
-abbrev pub In : ℕ → ℤ → Type 0
-In m z = (z ≤ℤ pos m) × (neg_ℤ (pos m) ≤ℤ z)
-
-pub times_in : (j k m : ℕ) (a : ℤ) → j ≤ k → nat_abs a ≤ m → In (k * m) (pos j *ℤ a)
-times_in j k m (pos x) h b = let p = mul-le-mul h b in (omega (arith, ints), omega (arith, ints))
-times_in j k m (negsuc x) h b = let p = mul-le-mul h b in (omega (arith, ints), omega (arith, ints))
 
 nothing_times : (a : ℤ) → pos 0 *ℤ a ≡ pos 0
 nothing_times (pos x) = omega (arith, ints)
