@@ -23,5 +23,5 @@ pub fn registering(
     if company_at(companies, company).is_some() {
         return Err(Reason::PlaceTaken.at(company));
     }
-    Terms::new(figures)
+    Terms::try_from(figures)
 }
