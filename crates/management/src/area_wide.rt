@@ -41,9 +41,9 @@ impl Management for AreaWide {
     fn operating_price(&self, traits: Traits) -> PointPrice {
         let large = self.prices.of(Size::Large, traits);
         if traits.points > 300_000 {
-            return large.price;
+            return large.figure;
         }
         let medium = self.prices.of(Size::Medium, traits);
-        Weights::of(traits).mean(medium, large).price
+        Weights::of(traits).mean(medium, large).figure
     }
 }

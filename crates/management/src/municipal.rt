@@ -37,6 +37,6 @@ impl Management for Municipal {
     ghost limited = { λ m points density year. municipal_limited m.prices.list m.prices.within points density };
 
     fn operating_price(&self, traits: Traits) -> PointPrice {
-        self.prices.of(Size::of(traits.points), traits).price
+        self.prices.of(Size::of(traits.points), traits).figure
     }
 }

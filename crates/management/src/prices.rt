@@ -1,21 +1,14 @@
 // Nine prices within their limit: for each size, small first, one for each density.
-ghost use Rattle.std.specs.Prelude.{◌≡◌, ◌≤◌, false, is_some};
+ghost use Rattle.std.specs.Prelude.{◌≡◌, false, is_some};
 ghost use Rattle.limits.specs.Checked.{made_of};
 ghost use Rattle.limits.specs.First.{point_price_fits, first_beyond};
 ghost use Rattle.management.specs.Prices.{checked, price_of};
 
 use crate::size::Size;
 use crate::traits::Traits;
-use limits::{first_beyond, unless_bad};
+use limits::{Fitting, first_beyond, unless_bad};
 use units::amounts::PointPrice;
 use units::refusal::{Reason, Refusal};
-
-/// A price within its limit.
-#[derive(Clone, Copy, Debug, PartialEq, Eq)]
-pub struct LimitedPrice {
-    pub price: PointPrice,
-    ghost limited: { price.0 ≤ 1000000000 },
-}
 
 #[derive(Clone, Copy, Debug, PartialEq, Eq)]
 pub struct Prices {
@@ -38,11 +31,11 @@ impl TryFrom<[PointPrice; 9]> for Prices {
 impl Prices {
     /// The price of a size, at the density of these traits.
     #[tactic(auto, using(crate::specs::Limits::at_limited))]
-    pub fn of(&self, size: Size, traits: Traits) -> LimitedPrice
-        ensures { result.price.0 ≡ price_of self.now.list size traits.density }
+    pub fn of(&self, size: Size, traits: Traits) -> Fitting<PointPrice>
+        ensures { result.figure.0 ≡ price_of self.now.list size traits.density }
     {
-        LimitedPrice {
-            price: self.list[size.figure(traits) as usize - 1],
+        Fitting {
+            figure: self.list[size.figure(traits) as usize - 1],
         }
     }
 }

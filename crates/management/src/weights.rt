@@ -2,8 +2,8 @@
 ghost use Rattle.std.specs.Prelude.{◌≡◌, ◌+◌};
 ghost use Rattle.management.specs.Weights.{weights_of, mean};
 
-use crate::prices::LimitedPrice;
 use crate::traits::Traits;
+use limits::Fitting;
 use rounding::round_half_up;
 use units::amounts::PointPrice;
 
@@ -25,14 +25,18 @@ impl Weights {
 
     /// The medium and the large price by their weights: a quarter of their sum, rounded once.
     #[tactic(auto, using(crate::specs::Limits::mean_limited))]
-    pub(crate) fn mean(self, medium: LimitedPrice, large: LimitedPrice) -> LimitedPrice
+    pub(crate) fn mean(
+        self,
+        medium: Fitting<PointPrice>,
+        large: Fitting<PointPrice>,
+    ) -> Fitting<PointPrice>
         requires { self.0 + self.1 ≡ 4 }
-        ensures { result.price.0 ≡ mean self medium.price.0 large.price.0 }
+        ensures { result.figure.0 ≡ mean self medium.figure.0 large.figure.0 }
     {
         let Weights(of_medium, of_large) = self;
-        let weighed = medium.price.0 * of_medium + large.price.0 * of_large;
-        LimitedPrice {
-            price: PointPrice(round_half_up(weighed, 4)),
+        let weighed = medium.figure.0 * of_medium + large.figure.0 * of_large;
+        Fitting {
+            figure: PointPrice(round_half_up(weighed, 4)),
         }
     }
 }
