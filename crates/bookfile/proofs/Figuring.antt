@@ -1,7 +1,10 @@
 -- Reading figures word by word: whatever the rest of the words gives, the whole gives.
-use Rattle.std.proofs.Common.{◌≡◌, ℕ, ◌<◌, false, List, [], ◌∷◌, ◌++◌, length, get_or, set, ℤ, is_some, Some, None, Option, sym, refl, ap, ◌∙◌, subst, arith, SFits, to_z, of_z}
+use Rattle.std.proofs.Common.{◌≡◌, ℕ, ◌<◌, false, List, [], ◌∷◌, ◌++◌, map, length, get_or, set, bytes_eq, position, Bor, ℤ, is_some, Some, None, Option, sym, refl, ap, ◌∙◌, subst, arith, SFits, to_z, of_z}
 use mir.Syntax.{w128}
 use Rattle.std.proofs.lemmas.Int.{to_z-of_z}
+use Rattle.std.proofs.lemmas.List.{length-map, get_or-map}
+use Rattle.std.proofs.lemmas.List.Quantifiers.{position-Some}
+use Rattle.std.proofs.lemmas.Slice.Eq.{bytes_eq-Decides}
 use Rattle.std.specs.Str.Parse.{signed_digits_value}
 use Rattle.std.specs.Char.{is_whitespace, is_not_whitespace}
 use Rattle.std.specs.Str.{NoCharPasses, EmptyOrStartsWithPassing}
@@ -15,6 +18,13 @@ not_given (Some z) e = grind arith
 -- what `split_whitespace` says of an item
 pub first_of : (bs w rest : List ℕ) → (gap : List ℕ) × (bs ≡ gap ++ (w ++ rest)) × (0 < length w) × NoCharPasses is_not_whitespace gap × NoCharPasses is_whitespace w × ((more : List ℕ) × EmptyOrStartsWithPassing is_whitespace rest more) → First bs w rest
 first_of bs w rest cut = record { gap = cut.0; cut = cut.1; some = cut.2; blank = cut.3; solid = cut.4; ends = cut.5 }
+
+-- what `position` says of a name among the names
+pub name_at : (names : List (Bor (List ℕ))) (name : List ℕ) (i : ℕ) → position (λ known. bytes_eq known.now name) names ≡ Some i → (i < length (map (λ n. n.now) names)) × (get_or (map (λ n. n.now) names) i [] ≡ name)
+name_at [] name i e = absurd (cc)
+name_at (n ∷ ns) name i e =
+    let at = position-Some (λ known. bytes_eq known.now name) (n ∷ ns) i n e in
+    (simp length-map at.0, get_or-map (λ m. m.now) (n ∷ ns) i n [] at.0 ∙ (bytes_eq-Decides _ _).0 at.1)
 
 -- a word that is cut at its equals sign, with a name that is known and a plain number
 pub gives : (s : Statement) (w name text : List ℕ) (names : List (List ℕ)) (i : ℕ) (n : ℤ) → names ≡ names_of s → w ≡ name ++ (61 ∷ text) → (i < length names) × (get_or names i [] ≡ name) → Plain text × (n ≡ signed_digits_value 10 text) → Gives s w i (to_z w128 (of_z w128 n))

@@ -2,5 +2,4 @@ mod Placing
 mod Filling
 mod LineCounts
 mod SoFar
-mod Numerals
 mod Figuring

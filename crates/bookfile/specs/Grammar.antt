@@ -1,9 +1,11 @@
 -- What a line of a book file says.
-use Rattle.std.specs.Prelude.{◌≡◌, ℕ, ◌<◌, ◌⊎◌, List, [], ◌∷◌, ◌++◌, length, replicate, ℤ, Some, None, codes, Option, FitsSigned, ◌≢◌, slice_index, slice_index_or, slice_set}
+use Rattle.std.specs.Prelude.{◌≡◌, ℕ, ◌<◌, ◌⊎◌, List, [], ◌∷◌, ◌++◌, length, replicate, ℤ, Some, None, Ok, Err, codes, Option, Result, FitsSigned, ◌≢◌, slice_index, slice_index_or, slice_set}
 use Rattle.std.specs.Int.{w128}
 use Rattle.std.specs.Str.Parse.{IsNumeral, without_leading_sign, signed_digits_value}
 use Rattle.std.specs.Char.{is_whitespace, is_not_whitespace}
 use Rattle.std.specs.Str.{NoCharPasses, EmptyOrStartsWithPassing}
+use Rattle.bookfile.specs.declared.malformed.Malformed.{Malformed}
+use Rattle.bookfile.specs.declared.malformed.Malformed.TheVariants.{Keyword}
 use Rattle.bookfile.specs.declared.statement.Statement.{Statement}
 use Rattle.bookfile.specs.declared.statement.Statement.TheVariants.{Tariff, Distribution, Metering, Bracket, Coefficient, Life, Point, Bill}
 
@@ -16,6 +18,11 @@ keyword_of Coefficient = codes "coefficient"
 keyword_of Life = codes "life"
 keyword_of Point = codes "point"
 keyword_of Bill = codes "bill"
+
+-- a word is read as the statement that has it as its keyword, and no other word is read
+abbrev pub ReadsKeyword : List ℕ → Result Statement Malformed → Type 0
+ReadsKeyword word (Ok s) = word ≡ keyword_of s
+ReadsKeyword word (Err e) = (e ≡ Keyword) × ((s : Statement) → word ≢ keyword_of s)
 
 -- the names of a statement's figures
 abbrev pub names_of : Statement → List (List ℕ)

@@ -1,5 +1,5 @@
 -- What slots for figures hold after figures are put to them.
-use Rattle.std.specs.Prelude.{ℕ, zero, suc, ◌+◌, cond, List, ℤ, is_some, Some, None, Option, slice_index_or, slice_set}
+use Rattle.std.specs.Prelude.{◌≡◌, ℕ, zero, suc, ◌+◌, cond, List, ℤ, is_some, Some, None, Option, Result, MatchResult, slice_index_or, slice_set}
 use Rattle.bookfile.specs.Numbers.{whole_of}
 
 -- the slots after a figure is put to one: a slot takes one figure only, and a figure that is not given leaves it
@@ -17,3 +17,7 @@ abbrev pub placed_all : List (Option ℕ) → ℕ → List (Option ℤ) → ℕ 
 placed_all slots at zs first zero = Some slots
 placed_all slots at zs first (suc n) =
     and_then (placed_all slots at zs first n) (λ s. placed s (at + n) (slice_index_or zs (first + n) None))
+
+-- figures are put as asked, or they are refused where no slots come of it
+abbrev pub Puts : {X E : Type 0} → Option X → Result (Unit {0}) E → X → Type 0
+Puts asked r new = MatchResult r (λ _. asked ≡ Some new) (λ _. asked ≡ None)

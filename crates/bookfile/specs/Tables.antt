@@ -3,7 +3,7 @@ use Rattle.std.specs.Prelude.{ℕ, ◌+◌, ◌-◌, ◌*◌, cond, List, replic
 use Rattle.bookfile.specs.declared.statement.Statement.{Statement}
 use Rattle.bookfile.specs.declared.statement.Statement.TheVariants.{Tariff, Distribution, Metering, Bracket, Coefficient, Life, Point, Bill}
 use Rattle.bookfile.specs.declared.table.Table.{Table}
-use Rattle.bookfile.specs.declared.table.puts.Span.{Span}
+use Rattle.bookfile.specs.declared.slots.Span.{Span}
 use Rattle.bookfile.specs.Calls.{whole_at}
 use Rattle.bookfile.specs.Slots.{and_then, placed_all}
 

@@ -5,7 +5,7 @@ ghost use Rattle.bookfile.specs.Calls.{call_of, Lawful};
 use crate::line::Line;
 use crate::statement::Statement;
 
-#[derive(Clone, Copy)]
+#[derive(Clone, Copy, Debug, PartialEq, Eq)]
 pub enum Call {
     /// A delivery point is put at a place of the point table.
     Point {

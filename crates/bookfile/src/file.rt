@@ -9,11 +9,12 @@ use crate::line::Line;
 use crate::malformed::Malformed;
 use crate::table::Table;
 use std::alloc::{AllocError, AllocFailed, Global};
+use std::error::Error;
 use std::fmt;
 use tariff::figures::TariffFigures;
 
 /// A call, and the number of its line, from 1.
-#[derive(Clone, Copy)]
+#[derive(Clone, Copy, Debug, PartialEq, Eq)]
 pub struct NumberedCall {
     pub line: usize,
     pub call: Call,
@@ -27,7 +28,7 @@ pub struct BookFile {
 }
 
 /// Why a book file is not read.
-#[derive(Clone, Copy)]
+#[derive(Clone, Copy, Debug, PartialEq, Eq)]
 pub enum Unread {
     Malformed { line: usize, what: Malformed },
     Memory,
@@ -58,20 +59,18 @@ impl fmt::Display for Unread {
     }
 }
 
+impl Error for Unread {}
+
 /// Reads a book file; of a malformed one it names the first bad line.
 pub fn read(heap: Global, text: &str) -> Result<BookFile, Unread>
     ensures { MatchResult result (Says text.now) (Placed text.now) }
 {
     let mut table = Table::new();
     let mut calls = Vec::new(heap);
-    let mut line: usize = 0;
-    for row in text.lines() {
-        line += 1;
-        let answer = match read_line(&mut table, row) {
-            Ok(answer) => answer,
-            Err(what) => return Err(Unread::Malformed { line, what }),
-        };
-        if let Some(call) = answer {
+    for (i, row) in text.lines().enumerate() {
+        let line = i + 1;
+        let call = read_line(&mut table, row).map_err(|what| Unread::Malformed { line, what })?;
+        if let Some(call) = call {
             calls.push(NumberedCall { line, call })?;
         }
     }

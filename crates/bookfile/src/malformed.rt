@@ -1,8 +1,9 @@
 // What is wrong with a line of a book file.
-use crate::statement::Statement;
+use crate::statement::{Field, Statement};
+use std::error::Error;
 use std::fmt;
 
-#[derive(Clone, Copy)]
+#[derive(Clone, Copy, Debug, PartialEq, Eq)]
 pub enum Malformed {
     /// The line begins with no keyword.
     Keyword,
@@ -10,35 +11,33 @@ pub enum Malformed {
     Word,
     /// A figure is none of the statement's.
     Name(Statement),
-    /// The figure at this place of the statement is missing.
-    Missing(Statement, usize),
-    Repeated(Statement, usize),
-    /// The figure at this place is no number of its kind.
-    Number(Statement, usize),
+    /// A figure that has to be given is missing.
+    Missing(Field),
+    /// A figure is given again.
+    Repeated(Field),
+    /// A figure is no number of its kind.
+    Number(Field),
     NinthBracket,
 }
 
 impl fmt::Display for Malformed {
     fn fmt<W: fmt::Write>(&self, f: &mut fmt::Formatter<W>) -> fmt::Result {
-        let (what, link, name) = match *self {
-            Malformed::Keyword => (
-                "tariff, distribution, metering, bracket, coefficient, life, point or bill",
-                " as the first word",
-                "",
+        match *self {
+            Malformed::Keyword => f.write_str(
+                "expected tariff, distribution, metering, bracket, coefficient, life, point or bill as the first word",
             ),
-            Malformed::Word => (
-                "figures as name=number",
-                ", with blanks only between them",
-                "",
+            Malformed::Word => f.write_str(
+                "expected figures as name=number, with blanks only between them",
             ),
-            Malformed::Name(statement) => ("only the figures of ", statement.example(), ""),
-            Malformed::Missing(statement, i) => ("the figure ", statement.name(i), ""),
-            Malformed::Repeated(statement, i) => ("the figure ", statement.name(i), " only once"),
-            Malformed::Number(statement, i) => {
-                (statement.kind(i).words(), " for ", statement.name(i))
+            Malformed::Name(statement) => {
+                write!(f, "expected only the figures of {}", statement.example())
             }
-            Malformed::NinthBracket => ("no more than 8 brackets", "", ""),
-        };
-        write!(f, "expected {what}{link}{name}")
+            Malformed::Missing(field) => write!(f, "expected the figure {field}"),
+            Malformed::Repeated(field) => write!(f, "expected the figure {field} only once"),
+            Malformed::Number(field) => write!(f, "expected {} for {field}", field.kind()),
+            Malformed::NinthBracket => f.write_str("expected no more than 8 brackets"),
+        }
     }
 }
+
+impl Error for Malformed {}

@@ -5,7 +5,7 @@ ghost use Rattle.bookfile.specs.Naming.{Nameless, Named};
 use std::fmt;
 
 /// A figure of a tariff table. Areas, classes, brackets and asset rows count from 1.
-#[derive(Clone, Copy)]
+#[derive(Clone, Copy, Debug, PartialEq, Eq)]
 pub enum Figure {
     Days,
     Distribution { area: u64, class: u64 },

@@ -1,40 +1,50 @@
 // Slots for the figures of a tariff table: each takes its figure once.
-ghost use Rattle.std.specs.Prelude.{◌≡◌, ◌+◌, ◌<◌, ◌≤◌, length, Some, None, MatchResult, slice_index_or};
-ghost use Rattle.bookfile.specs.Slots.{placed, placed_all};
+ghost use Rattle.std.specs.Prelude.{◌+◌, ◌<◌, ◌≤◌, length, None, slice_index_or};
+ghost use Rattle.bookfile.specs.declared.statement.TheConstants.{MOST_FIGURES};
+ghost use Rattle.bookfile.specs.Slots.{placed, placed_all, Puts};
 
 use crate::line::Line;
 use crate::malformed::Malformed;
+use crate::statement::Field;
+
+/// Which figures of a line go into the table: `count` of them from the first on, to slots from one on.
+/// Then the table has so many brackets.
+#[derive(Clone, Copy)]
+pub struct Span {
+    pub slot: usize,
+    pub first: usize,
+    pub count: usize,
+    pub brackets: usize,
+}
 
 // Puts a figure to a slot, which takes one only; a figure that is not given leaves it.
 fn put(slots: &mut [Option<u64>], at: usize, line: &Line, i: usize) -> Result<(), Malformed>
     requires slot { at < length slots.old }
-    requires figure { i < 11 }
-    ensures { MatchResult result (λ _. placed slots.old at (slice_index_or line.now.figures i None) ≡ Some slots.new) (λ _. placed slots.old at (slice_index_or line.now.figures i None) ≡ None) }
+    requires figure { i < MOST_FIGURES }
+    ensures { Puts (placed slots.old at (slice_index_or line.now.figures i None)) result slots.new }
 {
     if line.figures[i].is_none() {
         return Ok(());
     }
     if slots[at].is_some() {
-        return Err(Malformed::Repeated(line.statement, i));
+        return Err(Malformed::Repeated(Field {
+            statement: line.statement,
+            place: i,
+        }));
     }
     slots[at] = Some(line.whole(i));
     Ok(())
 }
 
-/// Puts some of a line's figures to slots from one on.
-pub(crate) fn put_all(
-    slots: &mut [Option<u64>],
-    at: usize,
-    line: &Line,
-    first: usize,
-    count: usize,
-) -> Result<(), Malformed>
-    requires room { at + count ≤ length slots.old }
-    requires figures { first + count ≤ 11 }
-    ensures { MatchResult result (λ _. placed_all slots.old at line.now.figures first count ≡ Some slots.new) (λ _. placed_all slots.old at line.now.figures first count ≡ None) }
+/// Puts the figures of a span of a line to the span's slots.
+pub(crate) fn put_all(slots: &mut [Option<u64>], line: &Line, span: Span) -> Result<(), Malformed>
+    requires room { span.slot + span.count ≤ length slots.old }
+    requires figures { span.first + span.count ≤ MOST_FIGURES }
+    ensures { Puts (placed_all slots.old span.slot line.now.figures span.first span.count) result slots.new }
 {
-    for k in 0..count {
-        put(slots, at + k, line, first + k)?;
+    // By number: the figures and the slots begin at different places, and a refusal names the figure's place.
+    for k in 0..span.count {
+        put(slots, span.slot + k, line, span.first + k)?;
     }
     Ok(())
 }

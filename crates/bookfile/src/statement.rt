@@ -1,9 +1,14 @@
 // The statements of a book file: their keywords, the names of their figures, and what numbers those may be.
-ghost use Rattle.std.specs.Prelude.{◌≡◌, ◌≤◌, map, length, IfSome};
-ghost use Rattle.bookfile.specs.Grammar.{keyword_of, names_of};
+ghost use Rattle.std.specs.Prelude.{◌≡◌, ◌≤◌, ◌&&◌, map, length, int_le};
+ghost use Rattle.bookfile.specs.declared.statement.TheConstants.{MOST_FIGURES};
+ghost use Rattle.bookfile.specs.Grammar.{ReadsKeyword, names_of};
 ghost use Rattle.bookfile.specs.Syntax.{kind_of, needed, least, most};
 
-#[derive(Clone, Copy)]
+use crate::malformed::Malformed;
+use std::fmt;
+use std::str::FromStr;
+
+#[derive(Clone, Copy, Debug, PartialEq, Eq)]
 pub enum Statement {
     Tariff,
     Distribution,
@@ -16,7 +21,7 @@ pub enum Statement {
 }
 
 /// What number a figure may be.
-#[derive(Clone, Copy)]
+#[derive(Clone, Copy, Debug, PartialEq, Eq)]
 pub enum Kind {
     /// A whole number of 64 bits.
     Whole,
@@ -28,21 +33,17 @@ pub enum Kind {
     OneOfEight,
 }
 
+/// A figure of a statement, by its place among the statement's names.
+#[derive(Clone, Copy, Debug, PartialEq, Eq)]
+pub struct Field {
+    pub statement: Statement,
+    pub place: usize,
+}
+
 /// The most figures that a statement has.
 pub(crate) const MOST_FIGURES: usize = 11;
 
-const ALL: [Statement; 8] = [
-    Statement::Tariff,
-    Statement::Distribution,
-    Statement::Metering,
-    Statement::Bracket,
-    Statement::Coefficient,
-    Statement::Life,
-    Statement::Point,
-    Statement::Bill,
-];
-
-static TARIFF: [&str; 11] = [
+static TARIFF: [&str; MOST_FIGURES] = [
     "days",
     "commercial",
     "gs",
@@ -68,36 +69,30 @@ static POINT: [&str; 4] = ["place", "area", "class", "domestic"];
 
 static BILL: [&str; 3] = ["point", "volume", "days"];
 
+impl FromStr for Statement {
+    type Err = Malformed;
+
+    ghost from_str_gives = { ReadsKeyword };
+
+    fn from_str(word: &str) -> Result<Statement, Malformed> {
+        match word {
+            "tariff" => Ok(Statement::Tariff),
+            "distribution" => Ok(Statement::Distribution),
+            "metering" => Ok(Statement::Metering),
+            "bracket" => Ok(Statement::Bracket),
+            "coefficient" => Ok(Statement::Coefficient),
+            "life" => Ok(Statement::Life),
+            "point" => Ok(Statement::Point),
+            "bill" => Ok(Statement::Bill),
+            _ => Err(Malformed::Keyword),
+        }
+    }
+}
+
 impl Statement {
-    pub(crate) fn by_keyword(word: &str) -> Option<Statement>
-        ensures { IfSome result (λ s. word.now ≡ keyword_of s) }
-    {
-        for statement in ALL {
-            if statement.keyword() == word {
-                return Some(statement);
-            }
-        }
-        None
-    }
-
-    fn keyword(self) -> &'static str
-        ensures { result.now ≡ keyword_of self }
-    {
-        match self {
-            Statement::Tariff => "tariff",
-            Statement::Distribution => "distribution",
-            Statement::Metering => "metering",
-            Statement::Bracket => "bracket",
-            Statement::Coefficient => "coefficient",
-            Statement::Life => "life",
-            Statement::Point => "point",
-            Statement::Bill => "bill",
-        }
-    }
-
     /// The names of the statement's figures.
     pub(crate) fn names(self) -> &'static [&'static str]
-        ensures few { length result.now ≤ 11 }
+        ensures few { length result.now ≤ MOST_FIGURES }
         ensures names { map (λ n. n.now) result.now ≡ names_of self }
     {
         match self {
@@ -109,37 +104,6 @@ impl Statement {
             Statement::Life => &LIFE,
             Statement::Point => &POINT,
             Statement::Bill => &BILL,
-        }
-    }
-
-    /// The name of a figure by its place.
-    pub(crate) fn name(self, i: usize) -> &'static str {
-        self.names().get(i).copied().unwrap_or("")
-    }
-
-    /// What number a figure may be.
-    pub(crate) fn kind(self, i: usize) -> Kind
-        ensures { result ≡ kind_of self i }
-    {
-        match (self, i) {
-            (Statement::Point | Statement::Bill, 0) => Kind::Place,
-            (Statement::Point, 1) => Kind::OneOfEight,
-            (Statement::Bill, _) => Kind::Change,
-            (Statement::Tariff | Statement::Bracket | Statement::Point, _) => Kind::Whole,
-            (_, 0) => Kind::OneOfEight,
-            _ => Kind::Whole,
-        }
-    }
-
-    /// Whether a figure has to be given: all but those of a tariff statement do.
-    pub(crate) fn needs(self, i: usize) -> bool
-        ensures { result ≡ needed self i }
-    {
-        match self {
-            Statement::Tariff => false,
-            Statement::Distribution | Statement::Metering | Statement::Point => i < 4,
-            Statement::Bracket | Statement::Coefficient | Statement::Life => i < 2,
-            Statement::Bill => i < 3,
         }
     }
 
@@ -161,25 +125,71 @@ impl Statement {
     }
 }
 
+impl Field {
+    /// What number the figure may be.
+    pub(crate) fn kind(self) -> Kind
+        ensures { result ≡ kind_of self.statement self.place }
+    {
+        match (self.statement, self.place) {
+            (Statement::Point | Statement::Bill, 0) => Kind::Place,
+            (Statement::Point, 1) => Kind::OneOfEight,
+            (Statement::Bill, _) => Kind::Change,
+            (Statement::Tariff | Statement::Bracket | Statement::Point, _) => Kind::Whole,
+            (_, 0) => Kind::OneOfEight,
+            _ => Kind::Whole,
+        }
+    }
+
+    /// Whether the figure has to be given: all but those of a tariff statement do.
+    pub(crate) fn is_needed(self) -> bool
+        ensures { result ≡ needed self.statement self.place }
+    {
+        match self.statement {
+            Statement::Tariff => false,
+            Statement::Distribution | Statement::Metering | Statement::Point => self.place < 4,
+            Statement::Bracket | Statement::Coefficient | Statement::Life => self.place < 2,
+            Statement::Bill => self.place < 3,
+        }
+    }
+}
+
+impl fmt::Display for Field {
+    fn fmt<W: fmt::Write>(&self, f: &mut fmt::Formatter<W>) -> fmt::Result {
+        f.write_str(
+            self.statement
+                .names()
+                .get(self.place)
+                .copied()
+                .unwrap_or(""),
+        )
+    }
+}
+
 impl Kind {
-    /// The least and the most number of this kind.
-    pub(crate) fn bounds(self) -> (i128, i128)
+    // The least and the most number of this kind.
+    fn bounds(self) -> (i128, i128)
         ensures { (result.0 ≡ least self) × (result.1 ≡ most self) }
     {
         match self {
-            Kind::Whole => (0, 18446744073709551615),
-            Kind::Change => (-9223372036854775808, 9223372036854775807),
+            Kind::Whole => (0, u64::MAX as i128),
+            Kind::Change => (i64::MIN as i128, i64::MAX as i128),
             Kind::Place => (0, 65535),
             Kind::OneOfEight => (1, 8),
         }
     }
 
-    pub(crate) fn words(self) -> &'static str {
-        match self {
-            Kind::Whole => "a plain whole number from 0 to 18446744073709551615",
-            Kind::Change => "a plain whole number from -9223372036854775808 to 9223372036854775807",
-            Kind::Place => "a plain whole number from 0 to 65535",
-            Kind::OneOfEight => "a plain whole number from 1 to 8",
-        }
+    /// Whether a number is of this kind.
+    pub(crate) fn allows(self, n: i128) -> bool
+        ensures { result ≡ (int_le (least self) n && int_le n (most self)) }
+    {
+        let (least, most) = self.bounds();
+        least <= n && n <= most
+    }
+}
+
+impl fmt::Display for Kind {
+    fn fmt<W: fmt::Write>(&self, f: &mut fmt::Formatter<W>) -> fmt::Result {
+        let (least, most) = self.bounds();
+        write!(f, "a plain whole number from {least} to {most}")
     }
 }

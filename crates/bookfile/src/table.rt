@@ -3,10 +3,11 @@ mod filed;
 mod puts;
 
 /// The figures that are given so far, each in its slot: the single ones, then distribution and metering by area
-/// and class, the coefficients, the lives, and the brackets, each its end and its price.
+/// and class, the coefficients, the lives, and the brackets, each its end and its price. One array holds them all, so
+/// that one loop puts the figures of every statement.
 #[derive(Clone, Copy)]
 pub struct Table {
-    slots: [Option<u64>; 91],
+    slots: [Option<u64>; SLOTS],
     brackets: usize,
 }
 
@@ -19,3 +20,5 @@ const COEFFICIENTS: usize = 59;
 const LIVES: usize = 67;
 
 const BRACKETS: usize = 75;
+
+const SLOTS: usize = 91;

@@ -1,12 +1,14 @@
 -- What the calls on delivery points answer, and what the point table is after them.
-use Rattle.std.specs.Prelude.{◌≡◌, ℕ, ◌<◌, ◌≤◌, cond, ◌&&◌, List, length, is_some, Some, None, Ok, Err, Option, Result, ◌==◌, nat_le, slice_index_or, slice_set}
+use Rattle.std.specs.Prelude.{◌≡◌, ℕ, ◌<◌, ◌≤◌, Bool, cond, ◌&&◌, List, length, ℤ, is_some, Some, None, Ok, Err, Option, Result, ◌==◌, nat_le, slice_index_or, slice_set}
 use Rattle.units.specs.declared.refusal.Reason.{Reason}
 use Rattle.units.specs.declared.refusal.Reason.TheVariants.{PastTable, NothingThere, PlaceTaken, FigureLimit}
 use Rattle.units.specs.declared.refusal.Refusal.{Refusal}
 use Rattle.tariff.specs.declared.bill.Bill.{Bill}
+use Rattle.tariff.specs.declared.figures.TariffFigures.{TariffFigures}
+use Rattle.tariff.specs.PlainBills.{bill_at}
 use Rattle.temkovje.specs.declared.points.Row.{Row}
 
-abbrev pub refused : Reason → ℕ → Result Row Refusal
+abbrev pub refused : {X : Type 0} → Reason → ℕ → Result X Refusal
 refused reason place = Err (record { reason = reason; place = place })
 
 -- a point that is put at a place: past the table, at a taken place, of a class or with a domestic sign beyond its limit it is refused
@@ -30,6 +32,30 @@ abbrev pub Absent : List (Option Row) → ℕ → Result Bill Refusal → Type 0
 Absent rows place r =
     (length rows ≤ place → r ≡ Err (record { reason = PastTable; place = place })) ×
     (place < length rows → slice_index_or rows place None ≡ None → r ≡ Err (record { reason = NothingThere; place = place }))
+
+-- a row lies within the limits of a bill: its area, its class, and its year to date
+abbrev pub within_limits : Row → Bool
+within_limits row = (nat_le 1 row.area && nat_le row.area 8 && nat_le 1 row.class && nat_le row.class 3) && (nat_le row.volume 1000000000 && nat_le row.days 366)
+
+-- a row's bill, which changes its volume by dv and its days by dd; a row beyond its limits counts as blank
+abbrev pub charged : TariffFigures → Row → (dv dd : ℤ) → Result Bill Reason
+charged t row dv dd =
+    cond (within_limits row) (bill_at t row.area row.class row.domestic row.volume row.days dv dd) (Err NothingThere)
+
+-- a refusal that names its reason alone names this place
+abbrev pub refused_at : {X : Type 0} → ℕ → Result X Reason → Result X Refusal
+refused_at place (Ok x) = Ok x
+refused_at place (Err reason) = refused reason place
+
+-- the bill of what stands at a place, where anything does
+abbrev pub charged_at : TariffFigures → Option Row → (place : ℕ) → (dv dd : ℤ) → Result Bill Refusal
+charged_at t None place dv dd = refused NothingThere place
+charged_at t (Some row) place dv dd = refused_at place (charged t row dv dd)
+
+-- a bill of a point: past the table or of no point it is refused, else its row is charged
+abbrev pub bill_answer_at : TariffFigures → List (Option Row) → (place : ℕ) → (dv dd : ℤ) → Result Bill Refusal
+bill_answer_at t rows place dv dd =
+    cond (nat_le (length rows) place) (refused PastTable place) (charged_at t (slice_index_or rows place None) place dv dd)
 
 -- a row at another volume and other days
 abbrev pub moved : Option Row → ℕ → ℕ → Option Row

@@ -5,19 +5,12 @@ mod points;
 mod report;
 mod run;
 
-use run::run_book;
+use run::{Failure, run_book};
 use std::process::ExitCode;
 use std::{env, fs, io};
 
 fn main(rt: HostRuntime) -> io::Result<ExitCode> {
-    let text = match read_input(&rt) {
-        Ok(text) => text,
-        Err(e) => {
-            eprintln!(rt; "the book file cannot be read: {e}")?;
-            return Ok(ExitCode::FAILURE);
-        }
-    };
-    match run_book(rt.alloc(), text.as_str()) {
+    match answers(&rt) {
         Ok(out) => {
             rt.print(out)?;
             Ok(ExitCode::SUCCESS)
@@ -27,6 +20,12 @@ fn main(rt: HostRuntime) -> io::Result<ExitCode> {
             Ok(ExitCode::FAILURE)
         }
     }
+}
+
+// What the calls of the book file answer, in print.
+fn answers(rt: &HostRuntime) -> Result<String, Failure> {
+    let text = read_input(rt)?;
+    run_book(rt.alloc(), text.as_str())
 }
 
 // The file that the first argument names, or else the standard input.

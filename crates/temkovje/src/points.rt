@@ -1,20 +1,32 @@
 // The point table: plain rows, and the two calls that write them.
 ghost use Rattle.std.specs.Prelude.{◌≡◌};
-ghost use Rattle.temkovje.specs.Points.{point_answer, point_after, Absent, bill_after};
+ghost use Rattle.temkovje.specs.Points.{point_answer, point_after, Absent, charged, bill_answer_at, bill_after};
 
+use std::fmt;
 use tariff::bill::Bill;
 use tariff::supply::{Reading, Supply};
 use tariff::table::Tariff;
 use units::refusal::{Reason, Refusal};
 
 /// A delivery point, with its volume and days of the year to date.
-#[derive(Clone, Copy)]
+#[derive(Clone, Copy, Debug, PartialEq, Eq)]
 pub struct Row {
     pub area: u64,
     pub class: u64,
     pub domestic: bool,
     pub volume: u64,
     pub days: u64,
+}
+
+impl fmt::Display for Row {
+    fn fmt<W: fmt::Write>(&self, f: &mut fmt::Formatter<W>) -> fmt::Result {
+        let domestic = if self.domestic {
+            "domestic"
+        } else {
+            "not domestic"
+        };
+        write!(f, "area {}, class {}, {domestic}", self.area, self.class)
+    }
 }
 
 /// Puts a delivery point at a place.
@@ -72,6 +84,7 @@ pub fn bill_point(
     days: i64,
 ) -> Result<Bill, Refusal>
     ensures absent { Absent rows.old place result }
+    ensures answer { result ≡ bill_answer_at tariff.now.figures rows.old place volume days }
     ensures after { rows.new ≡ bill_after rows.old place result }
 {
     if place >= rows.len() as u64 {
@@ -80,32 +93,24 @@ pub fn bill_point(
             place,
         });
     }
-    let Some(row) = rows[place as usize] else {
-        return Err(Refusal {
-            reason: Reason::NothingThere,
-            place,
-        });
-    };
-    match charge(tariff, row, volume, days) {
-        Ok(bill) => {
-            rows[place as usize] = Some(Row {
-                volume: bill.volume,
-                days: bill.days,
-                ..row
-            });
-            Ok(bill)
-        }
-        Err(reason) => Err(Refusal { reason, place }),
-    }
+    let row = rows[place as usize].ok_or(Refusal {
+        reason: Reason::NothingThere,
+        place,
+    })?;
+    let bill = charge(tariff, row, volume, days).map_err(|reason| Refusal { reason, place })?;
+    rows[place as usize] = Some(Row {
+        volume: bill.volume,
+        days: bill.days,
+        ..row
+    });
+    Ok(bill)
 }
 
-// A row outside its limits counts as blank.
-fn charge(tariff: &Tariff, row: Row, volume: i64, days: i64) -> Result<Bill, Reason> {
-    let Some(supply) = Supply::new(row.area, row.class, row.domestic) else {
-        return Err(Reason::NothingThere);
-    };
-    let Some(at) = Reading::new(row.volume, row.days) else {
-        return Err(Reason::NothingThere);
-    };
+// The bill of a row; one outside its limits counts as blank.
+fn charge(tariff: &Tariff, row: Row, volume: i64, days: i64) -> Result<Bill, Reason>
+    ensures { result ≡ charged tariff.now.figures row volume days }
+{
+    let supply = Supply::new(row.area, row.class, row.domestic).ok_or(Reason::NothingThere)?;
+    let at = Reading::new(row.volume, row.days).ok_or(Reason::NothingThere)?;
     tariff.bill(supply, at, volume, days)
 }

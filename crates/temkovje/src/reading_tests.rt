@@ -5,56 +5,87 @@ use std::alloc::Global;
 use std::test::Fail;
 
 // A malformed text, and what is said of it.
-static MALFORMED: [&str; 36] = [
-    "\n\nbil point=0 volume=500 days=73",
-    "line 3: expected tariff, distribution, metering, bracket, coefficient, life, point or bill as the first word",
-    "tariff days=365\nbill point=0 500 days=73 # a word without its name",
-    "line 2: expected figures as name=number, with blanks only between them",
-    "bill point=0 volume= 500 days=73",
-    "line 1: expected a plain whole number from -9223372036854775808 to 9223372036854775807 for volume",
-    "bill point=0 volume=500 day=73",
-    "line 1: expected only the figures of bill point=0 volume=500 days=73",
-    "bill point=0 volume=500 # days=73",
-    "line 1: expected the figure days",
-    "bill point=0 volume=500 days=1 days=1",
-    "line 1: expected the figure days only once",
-    "tariff rate=560\ntariff rate=560",
-    "line 2: expected the figure rate only once",
-    "life row=3 years=20\nlife row=4 years=20\nlife row=3 years=20",
-    "line 3: expected the figure years only once",
-    "bill point=0 volume=9223372036854775808 days=0",
-    "line 1: expected a plain whole number from -9223372036854775808 to 9223372036854775807 for volume",
-    "tariff days=-1",
-    "line 1: expected a plain whole number from 0 to 18446744073709551615 for days",
-    "tariff days=+365",
-    "line 1: expected a plain whole number from 0 to 18446744073709551615 for days",
-    "tariff rate=18446744073709551616",
-    "line 1: expected a plain whole number from 0 to 18446744073709551615 for rate",
-    "tariff rate=999999999999999999999999999999999999999999",
-    "line 1: expected a plain whole number from 0 to 18446744073709551615 for rate",
-    "point place=65536 area=1 class=1 domestic=0",
-    "line 1: expected a plain whole number from 0 to 65535 for place",
-    "point place=0 area=9 class=1 domestic=0",
-    "line 1: expected a plain whole number from 1 to 8 for area",
-    "metering area=0 class1=1 class2=1 class3=1",
-    "line 1: expected a plain whole number from 1 to 8 for area",
-    "distribution area=1 class1=1 class3=1",
-    "line 1: expected the figure class2",
-    "bracket end=1 price=1\nbracket end=2 price=1\nbracket end=3 price=1\nbracket end=4 price=1\nbracket end=5 price=1\nbracket end=6 price=1\nbracket end=7 price=1\nbracket end=8 price=1\nbracket end=9 price=1",
-    "line 9: expected no more than 8 brackets",
+static MALFORMED: [(&str, &str); 18] = [
+    (
+        "\n\nbil point=0 volume=500 days=73",
+        "line 3: expected tariff, distribution, metering, bracket, coefficient, life, point or bill as the first word",
+    ),
+    (
+        "tariff days=365\nbill point=0 500 days=73 # a word without its name",
+        "line 2: expected figures as name=number, with blanks only between them",
+    ),
+    (
+        "bill point=0 volume= 500 days=73",
+        "line 1: expected a plain whole number from -9223372036854775808 to 9223372036854775807 for volume",
+    ),
+    (
+        "bill point=0 volume=500 day=73",
+        "line 1: expected only the figures of bill point=0 volume=500 days=73",
+    ),
+    (
+        "bill point=0 volume=500 # days=73",
+        "line 1: expected the figure days",
+    ),
+    (
+        "bill point=0 volume=500 days=1 days=1",
+        "line 1: expected the figure days only once",
+    ),
+    (
+        "tariff rate=560\ntariff rate=560",
+        "line 2: expected the figure rate only once",
+    ),
+    (
+        "life row=3 years=20\nlife row=4 years=20\nlife row=3 years=20",
+        "line 3: expected the figure years only once",
+    ),
+    (
+        "bill point=0 volume=9223372036854775808 days=0",
+        "line 1: expected a plain whole number from -9223372036854775808 to 9223372036854775807 for volume",
+    ),
+    (
+        "tariff days=-1",
+        "line 1: expected a plain whole number from 0 to 18446744073709551615 for days",
+    ),
+    (
+        "tariff days=+365",
+        "line 1: expected a plain whole number from 0 to 18446744073709551615 for days",
+    ),
+    (
+        "tariff rate=18446744073709551616",
+        "line 1: expected a plain whole number from 0 to 18446744073709551615 for rate",
+    ),
+    (
+        "tariff rate=999999999999999999999999999999999999999999",
+        "line 1: expected a plain whole number from 0 to 18446744073709551615 for rate",
+    ),
+    (
+        "point place=65536 area=1 class=1 domestic=0",
+        "line 1: expected a plain whole number from 0 to 65535 for place",
+    ),
+    (
+        "point place=0 area=9 class=1 domestic=0",
+        "line 1: expected a plain whole number from 1 to 8 for area",
+    ),
+    (
+        "metering area=0 class1=1 class2=1 class3=1",
+        "line 1: expected a plain whole number from 1 to 8 for area",
+    ),
+    (
+        "distribution area=1 class1=1 class3=1",
+        "line 1: expected the figure class2",
+    ),
+    (
+        "bracket end=1 price=1\nbracket end=2 price=1\nbracket end=3 price=1\nbracket end=4 price=1\nbracket end=5 price=1\nbracket end=6 price=1\nbracket end=7 price=1\nbracket end=8 price=1\nbracket end=9 price=1",
+        "line 9: expected no more than 8 brackets",
+    ),
 ];
 
 #[test]
 fn malformed_lines_are_named(rt: HostRuntime) -> Result<(), Fail> {
     let heap = rt.alloc();
-    for i in 0..18 {
-        match read(heap, MALFORMED[2 * i]) {
-            Ok(_) => return Err(Fail::new(MALFORMED[2 * i])),
-            Err(unread) => {
-                let said = format!(in heap; "{unread}")?;
-                assert_eq!(rt; said.as_str(), MALFORMED[2 * i + 1]);
-            }
-        }
+    for (text, said) in MALFORMED {
+        let unread = read(heap, text).err().ok_or(text)?;
+        assert_eq!(rt; unread.to_string(heap)?.as_str(), said);
     }
     Ok(())
 }

@@ -1,11 +1,14 @@
 // A book file run from its text to what it prints.
+ghost use Rattle.std.specs.Prelude.{◌≡◌};
+ghost use Rattle.temkovje.specs.declared.run.Failure.TheVariants.{Input, Unread as UnreadFailure, Memory};
+
 use crate::points::{Row, bill_point, put_point};
 use crate::report::{write_bill, write_point};
 use bookfile::calls::Call;
 use bookfile::file::{Unread, read};
 use bookfile::naming::figure_at;
 use std::alloc::{AllocError, Global};
-use std::fmt;
+use std::{fmt, io};
 use tariff::table::Tariff;
 use units::refusal::Refusal;
 
@@ -15,25 +18,41 @@ const PLACES: usize = 65536;
 /// Why a book file is not run.
 #[derive(Clone, Copy)]
 pub enum Failure {
+    /// The book file cannot be read from where it lies.
+    Input(io::Error),
     Unread(Unread),
     /// The tariff table, of so many brackets, is refused.
     Tariff { refusal: Refusal, brackets: usize },
     Memory,
 }
 
+impl From<io::Error> for Failure {
+    ghost from_gives = { λ error r. r ≡ Input error };
+
+    fn from(error: io::Error) -> Failure {
+        Failure::Input(error)
+    }
+}
+
 impl From<Unread> for Failure {
-    fn from(e: Unread) -> Failure {
-        Failure::Unread(e)
+    ghost from_gives = { λ unread r. r ≡ UnreadFailure unread };
+
+    fn from(unread: Unread) -> Failure {
+        Failure::Unread(unread)
     }
 }
 
 impl From<AllocError> for Failure {
+    ghost from_gives = { λ _ r. r ≡ Memory };
+
     fn from(_e: AllocError) -> Failure {
         Failure::Memory
     }
 }
 
 impl From<fmt::Error> for Failure {
+    ghost from_gives = { λ _ r. r ≡ Memory };
+
     fn from(_e: fmt::Error) -> Failure {
         Failure::Memory
     }
@@ -42,14 +61,15 @@ impl From<fmt::Error> for Failure {
 impl fmt::Display for Failure {
     fn fmt<W: fmt::Write>(&self, f: &mut fmt::Formatter<W>) -> fmt::Result {
         match *self {
+            Failure::Input(e) => write!(f, "the book file cannot be read: {e}"),
             Failure::Unread(e) => write!(f, "{e}"),
-            Failure::Tariff { refusal, brackets } => match figure_at(
-                refusal.place,
-                brackets as u64,
-            ) {
-                Some(figure) => write!(f, "{refusal}: {figure}"),
-                None => write!(f, "{refusal}"),
-            },
+            Failure::Tariff { refusal, brackets } => {
+                write!(f, "{refusal}")?;
+                match figure_at(refusal.place, brackets as u64) {
+                    Some(figure) => write!(f, ": {figure}"),
+                    None => Ok(()),
+                }
+            }
             Failure::Memory => write!(f, "there is not enough memory"),
         }
     }
@@ -59,10 +79,7 @@ impl fmt::Display for Failure {
 pub fn run_book(heap: Global, text: &str) -> Result<String, Failure> {
     let book = read(heap, text)?;
     let brackets = book.tariff.count;
-    let tariff = match Tariff::new(book.tariff) {
-        Ok(tariff) => tariff,
-        Err(refusal) => return Err(Failure::Tariff { refusal, brackets }),
-    };
+    let tariff = Tariff::new(book.tariff).map_err(|refusal| Failure::Tariff { refusal, brackets })?;
     let mut rows: Vec<Option<Row>> = vec![in heap; None; PLACES]?;
     let mut out = String::new(heap);
     for numbered in book.calls.iter() {

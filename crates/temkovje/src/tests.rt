@@ -3,12 +3,17 @@ use crate::run::run_book;
 use std::test::Fail;
 
 // A file, and what is printed of it.
-static PRINTED: [&str; 6] = [
-    "point place=0 area=1 class=1 domestic=0\nbill point=0 volume=1",
-    "line 2: expected the figure days",
-    "tariff days=364\npoint place=0 area=1 class=1 domestic=0",
-    "refusal 1 (layer 1, tariff) at figure 1: the tariff table breaks a limit: days of the year",
-    "tariff days=365 commercial=1825000 gs=100000 ug1=40000
+static PRINTED: [(&str, &str); 3] = [
+    (
+        "point place=0 area=1 class=1 domestic=0\nbill point=0 volume=1",
+        "line 2: expected the figure days",
+    ),
+    (
+        "tariff days=364\npoint place=0 area=1 class=1 domestic=0",
+        "refusal 1 (layer 1, tariff) at figure 1: the tariff table breaks a limit: days of the year",
+    ),
+    (
+        "tariff days=365 commercial=1825000 gs=100000 ug1=40000
 distribution area=2 class1=0 class2=36500000 class3=0
 metering area=2 class1=0 class2=18250000 class3=0
 bracket end=120 price=8000000\nbracket end=1000000000 price=5000000
@@ -23,7 +28,7 @@ bill point=9 volume=1000000000 days=366
 bill point=9 volume=220 days=365
 bill point=9 volume=-9223372036854775808 days=0
 bill point=9 volume=-100 days=-365",
-    "point 9: area 2, class 2, domestic
+        "point 9: area 2, class 2, domestic
 point 9: refusal 6 (layer 2, tables) at place 9: the place is taken
 point 8: refusal 7 (layer 2, tables) at figure 1: a figure lies beyond its limit
 point 8: refusal 7 (layer 2, tables) at figure 2: a figure lies beyond its limit
@@ -52,17 +57,18 @@ bill of point 9: -100 Smc, -365 days; year to date 120 Smc, 0 days
   lines 1 to 4            6388           480         -5908
   lines 5 and 6              9             5            -4
 ",
+    ),
 ];
 
 #[test]
 fn files_are_answered(rt: HostRuntime) -> Result<(), Fail> {
     let heap = rt.alloc();
-    for i in 0..3 {
-        let said = match run_book(heap, PRINTED[2 * i]) {
+    for (text, printed) in PRINTED {
+        let said = match run_book(heap, text) {
             Ok(out) => out,
-            Err(failure) => format!(in heap; "{failure}")?,
+            Err(failure) => failure.to_string(heap)?,
         };
-        assert_eq!(rt; said.as_str(), PRINTED[2 * i + 1]);
+        assert_eq!(rt; said.as_str(), printed);
     }
     Ok(())
 }

@@ -1,13 +1,14 @@
 // Reading a line, and the figures that it gives.
-ghost use Rattle.std.specs.Prelude.{◌≡◌, ℕ, ◌<◌, List, [], map, length, IfSome, is_ok, IfOk, MatchOption, OnOk, slice_index_or};
+ghost use Rattle.std.specs.Prelude.{◌≡◌, ℕ, List, replicate, None, is_ok, IfOk, MatchOption, OnOk, bytes_eq, position};
 ghost use Rattle.std.specs.Str.Parse.{signed_digits_value};
 ghost use Rattle.std.specs.Str.Iter.{split_whitespace_rest};
+ghost use Rattle.bookfile.specs.declared.statement.TheConstants.{MOST_FIGURES};
 ghost use Rattle.bookfile.specs.Grammar.{Before, Filled, Plain, Silent, Speaks, Words};
 ghost use Rattle.bookfile.specs.Syntax.{allowed, Good};
 
 use super::Line;
 use crate::malformed::Malformed;
-use crate::statement::{MOST_FIGURES, Statement};
+use crate::statement::{Field, MOST_FIGURES, Statement};
 use std::str::SplitWhitespace;
 
 impl Line {
@@ -19,11 +20,8 @@ impl Line {
         let Some(keyword) = words.next() else {
             return Ok(None);
         };
-        let Some(statement) = Statement::by_keyword(keyword) else {
-            return Err(Malformed::Keyword);
-        };
-        let mut figures = [None; MOST_FIGURES];
-        read_figures(statement, words, &mut figures)?;
+        let statement = keyword.parse::<Statement>()?;
+        let figures = read_figures(statement, words)?;
         check_figures(statement, &figures)?;
         Ok(Some(Line { statement, figures }))
     }
@@ -38,42 +36,32 @@ fn before_comment(line: &str) -> &str
     }
 }
 
-// Reads each figure to the place of its name.
+// The figures of a statement's words, each at the place of its name.
 fn read_figures(
     statement: Statement,
     words: SplitWhitespace<'_>,
-    figures: &mut [Option<i128>; MOST_FIGURES],
-) -> Result<(), Malformed>
-    ensures { OnOk result ((ws : List (List ℕ)) × Words (split_whitespace_rest words.entry) ws × Filled statement ws figures.old figures.new) }
+) -> Result<[Option<i128>; MOST_FIGURES], Malformed>
+    ensures { IfOk result (λ figures. (ws : List (List ℕ)) × Words (split_whitespace_rest words.entry) ws × Filled statement ws (replicate MOST_FIGURES None) figures) }
 {
+    let mut figures = [None; MOST_FIGURES];
     for word in words {
-        let Some((name, text)) = word.split_once('=') else {
-            return Err(Malformed::Word);
-        };
-        let Some(i) = place_of(name, statement.names()) else {
-            return Err(Malformed::Name(statement));
-        };
-        if figures[i].is_some() {
-            return Err(Malformed::Repeated(statement, i));
+        let (name, text) = word.split_once('=').ok_or(Malformed::Word)?;
+        let place = place_of(name, statement.names()).ok_or(Malformed::Name(statement))?;
+        let field = Field { statement, place };
+        if figures[place].is_some() {
+            return Err(Malformed::Repeated(field));
         }
-        let Some(n) = number(text) else {
-            return Err(Malformed::Number(statement, i));
-        };
-        figures[i] = Some(n);
+        let n = number(text).ok_or(Malformed::Number(field))?;
+        figures[place] = Some(n);
     }
-    Ok(())
+    Ok(figures)
 }
 
 // The place of a name among the names of a statement.
 fn place_of(name: &str, names: &[&'static str]) -> Option<usize>
-    ensures { IfSome result (λ i. (i < length names.now) × (slice_index_or (map (λ n. n.now) names.now) i [] ≡ name.now)) }
+    ensures { result ≡ position (λ known. bytes_eq known.now name.now) names.now }
 {
-    for (i, known) in names.iter().enumerate() {
-        if *known == name {
-            return Some(i);
-        }
-    }
-    None
+    names.iter().position(|known| *known == name)
 }
 
 // A whole number in plain digits, with a minus in front if it is negative.
@@ -93,25 +81,19 @@ fn check_figures(
 ) -> Result<(), Malformed>
     ensures { OnOk result (Good statement figures.now) }
 {
-    for i in 0..MOST_FIGURES {
-        check_figure(statement, i, figures[i])?;
+    for (place, figure) in figures.iter().enumerate() {
+        check_figure(Field { statement, place }, *figure)?;
     }
     Ok(())
 }
 
-fn check_figure(statement: Statement, i: usize, figure: Option<i128>) -> Result<(), Malformed>
-    ensures { is_ok result ≡ allowed statement i figure }
+fn check_figure(field: Field, figure: Option<i128>) -> Result<(), Malformed>
+    ensures { is_ok result ≡ allowed field.statement field.place figure }
 {
-    let Some(n) = figure else {
-        if statement.needs(i) {
-            return Err(Malformed::Missing(statement, i));
-        }
-        return Ok(());
-    };
-    let (least, most) = statement.kind(i).bounds();
-    if least <= n && n <= most {
-        Ok(())
-    } else {
-        Err(Malformed::Number(statement, i))
+    match figure {
+        Some(n) if field.kind().allows(n) => Ok(()),
+        Some(_) => Err(Malformed::Number(field)),
+        None if field.is_needed() => Err(Malformed::Missing(field)),
+        None => Ok(()),
     }
 }

@@ -1,22 +1,15 @@
 // Putting the figures of statements into the table.
-ghost use Rattle.std.specs.Prelude.{◌≡◌, ◌+◌, ◌≤◌, IfSome, Some, None, MatchResult};
+ghost use Rattle.std.specs.Prelude.{◌≡◌, ◌+◌, ◌≤◌, IfSome};
+ghost use Rattle.bookfile.specs.declared.statement.TheConstants.{MOST_FIGURES};
+ghost use Rattle.bookfile.specs.declared.table.TheConstants.{SLOTS};
+ghost use Rattle.bookfile.specs.Slots.{Puts};
 ghost use Rattle.bookfile.specs.Tables.{empty_table, span_of, table_after};
 
-use super::{BRACKETS, COEFFICIENTS, DISTRIBUTION, LIVES, METERING, Table};
+use super::{BRACKETS, COEFFICIENTS, DISTRIBUTION, LIVES, METERING, SLOTS, Table};
 use crate::line::Line;
 use crate::malformed::Malformed;
-use crate::slots::put_all;
-use crate::statement::Statement;
-
-/// Which figures of a line go into the table: `count` of them from the first on, to slots from one on.
-/// Then the table has so many brackets.
-#[derive(Clone, Copy)]
-pub struct Span {
-    slot: usize,
-    first: usize,
-    count: usize,
-    brackets: usize,
-}
+use crate::slots::{Span, put_all};
+use crate::statement::{MOST_FIGURES, Statement};
 
 impl Table {
     /// A table without figures.
@@ -24,19 +17,17 @@ impl Table {
         ensures { result ≡ empty_table }
     {
         Table {
-            slots: [None; 91],
+            slots: [None; SLOTS],
             brackets: 0,
         }
     }
 
     /// Takes the figures of a statement on the table; of another statement it takes none.
     pub(crate) fn put(&mut self, line: &Line) -> Result<(), Malformed>
-        ensures { MatchResult result (λ _. table_after line.now.statement line.now.figures self.old ≡ Some self.new) (λ _. table_after line.now.statement line.now.figures self.old ≡ None) }
+        ensures { Puts (table_after line.now.statement line.now.figures self.old) result self.new }
     {
-        let Some(span) = line_span(line, self.brackets) else {
-            return Err(Malformed::NinthBracket);
-        };
-        put_all(&mut self.slots, span.slot, line, span.first, span.count)?;
+        let span = line_span(line, self.brackets).ok_or(Malformed::NinthBracket)?;
+        put_all(&mut self.slots, line, span)?;
         self.brackets = span.brackets;
         Ok(())
     }
@@ -45,13 +36,13 @@ impl Table {
 // The span of a line, where the table has so many brackets; none for a ninth bracket.
 fn line_span(line: &Line, brackets: usize) -> Option<Span>
     ensures value { result ≡ span_of line.now.statement line.now.figures brackets }
-    ensures room { IfSome result (λ s. (s.slot + s.count ≤ 91) × (s.first + s.count ≤ 11)) }
+    ensures room { IfSome result (λ s. (s.slot + s.count ≤ SLOTS) × (s.first + s.count ≤ MOST_FIGURES)) }
 {
     let (first_slot, count) = match line.statement {
         Statement::Tariff => return Some(Span {
             slot: 0,
             first: 0,
-            count: 11,
+            count: MOST_FIGURES,
             brackets,
         }),
         Statement::Distribution => (DISTRIBUTION, 3),

@@ -3,5 +3,5 @@ use Rattle.std.specs.Str.Iter.{lines_rest}
 use Rattle.bookfile.proofs.SoFar.{SoFar}
 use Rattle.bookfile.proofs.file.read.Given as goal
 
-abbrev pub invariant-loop-row : goal.invariant-loop-row
-invariant-loop-row l = SoFar l.text l.line (lines_rest l.row-iterator) l.table (vec_items l.calls)
+abbrev pub invariant-loop-i : goal.invariant-loop-i
+invariant-loop-i l = SoFar l.text l.i-iterator.count (lines_rest l.i-iterator.iter) l.table (vec_items l.calls)

@@ -1,4 +1,4 @@
-use Rattle.std.proofs.Common.{◌+◌, Some, None, arith}
+use Rattle.std.proofs.Common.{◌+◌, None, arith}
 use Rattle.std.proofs.lemmas.Result.{err_from_is_err_and}
 use Rattle.bookfile.proofs.Placing.{placed_more, placed_none}
 use Rattle.bookfile.proofs.slots.put_all.Goals as goal
@@ -6,9 +6,5 @@ use Rattle.bookfile.proofs.slots.put_all.Goals as goal
 pub returns-in_err-put : goal.returns-in_err-put
 returns-in_err-put c =
     let p = err_from_is_err_and c.from_residual.result c.from_residual.ensures.1 in
-    let next = placed_more c.args.slots.now c.args.at c.args.line.now.figures c.args.first c.loop-k.k c.loop-k.slots None c.loop-k.invariant c.in_err-put.ensures in
-    rw p.1 (placed_none c.args.slots.now c.args.at c.args.line.now.figures c.args.first (c.loop-k.k + 1) c.args.count (omega arith) next)
-
-pub loop-k-preserved : goal.loop-k-preserved
-loop-k-preserved c =
-    placed_more c.args.slots.now c.args.at c.args.line.now.figures c.args.first c.loop-k.k c.loop-k.slots (Some c.put.new.slots) c.loop-k.invariant c.in_ok-put.ensures
+    let next = placed_more c.args.slots.now c.args.span.slot c.args.line.now.figures c.args.span.first c.loop-k.k c.loop-k.slots None c.loop-k.invariant c.in_err-put.ensures in
+    rw p.1 (placed_none c.args.slots.now c.args.span.slot c.args.line.now.figures c.args.span.first (c.loop-k.k + 1) c.args.span.count (omega arith) next)

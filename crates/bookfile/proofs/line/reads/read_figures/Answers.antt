@@ -1,27 +1,25 @@
-use Rattle.std.proofs.Common.{◌<◌, map, length, get_or, Some, None, ap, lit<}
-use Rattle.std.proofs.lemmas.List.{length-map}
+use Rattle.std.proofs.Common.{◌≡◌, map, get_or, Some, None, sym, ◌∙◌, lit<}
+use Rattle.std.proofs.lemmas.Option.{MatchOption-at_some}
 use Rattle.std.proofs.lemmas.Str.Pattern.{split_parts}
+use Rattle.std.specs.Str.Parse.{signed_digits_value}
 use Rattle.std.specs.Str.Iter.{split_whitespace_rest}
-use Rattle.bookfile.proofs.Figuring.{not_given, first_of, gives, carries_more, carries_all}
+use Rattle.bookfile.specs.Grammar.{Plain}
+use Rattle.bookfile.proofs.Figuring.{not_given, first_of, name_at, gives, carries_more, carries_all}
 use Rattle.bookfile.proofs.line.reads.read_figures.Goals as goal
-
-pub loop-word-init : goal.loop-word-init
-loop-word-init c =
-    let whole = ap split_whitespace_rest c.into_iter-word-iterator.ensures.into_iter_gives in rw whole (λ ws all words filled. (ws, words, filled))
 
 pub loop-word-preserved : goal.loop-word-preserved
 loop-word-preserved c =
     let w = c.in-Some.word.now in
-    let i = c.in-Some-place_of.i in
-    let names = map (λ n. n.now) c.names.result.now in
-    let at = c.in-Some-place_of.ensures in
-    let long : i < length names = simp length-map at.0 in
-    let cut = split_parts 61 w (Some (c.in-Some-split_once.name, c.in-Some-split_once.text)) c.in-Some-split_once.ensures.cases (lit< tt) in
+    let name = c.in_ok-name.name.now in
+    let text = c.in_ok-name.text.now in
+    let i = c.in_ok-place.place in
+    let at = name_at c.names.result.now name i (sym c.place_of.ensures ∙ c.in_ok-place.ensures.ok_part) in
+    let cut = split_parts 61 w (Some (c.in_ok-name.name, c.in_ok-name.text)) (rw c.in_ok-name.ensures.ok_part at c.split_once.ensures.cases) (lit< tt) in
+    let plain = MatchOption-at_some (Plain text → ⊥) (λ z. Plain text × (z ≡ signed_digits_value 10 text)) c.in_ok-n.n c.in_ok-n.ensures.ok_part c.number.ensures in
     let first = first_of _ w _ c.in-Some.ensures.steps in
-    let none = not_given (get_or c.loop-word.figures i None) c.if-is_some.ensures in
     carries_more c.loop-word.invariant w (split_whitespace_rest c.next.new.self) i _ first
-    (gives c.args.statement w c.in-Some-split_once.name.now c.in-Some-split_once.text.now names i c.in-Some-number.n c.names.ensures.names cut.0 (long, at.1) c.in-Some-number.ensures)
-    none
+    (gives c.args.statement w name text (map (λ n. n.now) c.names.result.now) i c.in_ok-n.n c.names.ensures.names cut.0 at plain)
+    (not_given (get_or c.loop-word.figures i None) c.if-is_some.ensures)
 
 pub returns : goal.returns
 returns c = carries_all c.loop-word.invariant c.in-None.ensures.steps.1
