@@ -5,7 +5,7 @@ ghost use Rattle.calls.specs.Decisions.{enrolled_within, enrolling};
 use crate::lent::Lent;
 use crate::places::company_at;
 use limits::among;
-use tables::lookup::{locality_at, point_at};
+use tables::lookup::record_at;
 use tables::rows::PointRow;
 use units::refusal::{Reason, Refusal};
 
@@ -33,10 +33,10 @@ impl<'a> Lent<'a> {
         if seat >= self.localities.len() as u64 {
             return Err(Reason::PastTable.at(seat));
         }
-        let locality = locality_at(self.localities, seat).ok_or(Reason::NothingThere.at(seat))?;
+        let locality = record_at(self.localities, seat).ok_or(Reason::NothingThere.at(seat))?;
         let company = locality.row().company;
         company_at(self.companies, company).ok_or(Reason::NothingThere.at(company))?;
-        if point_at(self.points, point).is_some() {
+        if record_at(self.points, point).is_some() {
             return Err(Reason::PlaceTaken.at(point));
         }
         enrolment.row()

@@ -5,7 +5,7 @@ ghost use Rattle.calls.specs.Decisions.{filing};
 use crate::places::company_at;
 use company::terms::Terms;
 use tables::filing::filing_fault;
-use tables::lookup::locality_at;
+use tables::lookup::record_at;
 use tables::rows::LocalityRow;
 use units::refusal::{Reason, Refusal};
 
@@ -29,7 +29,7 @@ pub fn filing(
         return Err(Reason::PastTable.at(row.company));
     }
     company_at(companies, row.company).ok_or(Reason::NothingThere.at(row.company))?;
-    let old = locality_at(localities, place).map(|locality| locality.row());
+    let old = record_at(localities, place).map(|locality| locality.row());
     match filing_fault(&old, &row) {
         Some(fault) => Err(fault),
         None => Ok(row),

@@ -2,6 +2,7 @@
 use Rattle.std.specs.Prelude.{ℕ, ◌+◌, ◌-◌, ◌*◌, cond, List, [], ◌∷◌, take, drop, pos, Ok, Err, Result, ◌==◌}
 use Rattle.units.specs.declared.refusal.Refusal.{Refusal}
 use Rattle.units.specs.declared.refusal.Reason.TheVariants.{NoExpectedPoints}
+use Rattle.units.specs.Refusals.{refusal}
 use Rattle.rounding.specs.Frac.{Frac, over, whole, plus}
 use Rattle.rounding.specs.Rounding.{rounded}
 use Rattle.rounding.specs.Sums.{sum_n}
@@ -81,5 +82,5 @@ exact_locality_figure t l = plus (plus (exact_capital_cost t Distribution l) (ex
 abbrev pub unit_component : TariffFigures → Service → LocalityRow → ℕ → Result ℕ Refusal
 unit_component t service l place =
     cond (l.expected == 0)
-    (Err (record { reason = NoExpectedPoints; place = place }))
+    (Err (refusal NoExpectedPoints place))
     (Ok (rounded (over (capital_cost t service l * 10000) l.expected)))

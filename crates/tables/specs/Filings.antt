@@ -1,16 +1,16 @@
 -- What is wrong with the figures of a locality, and which row counts as one.
 use Rattle.std.specs.Prelude.{ℕ, ◌+◌, ◌≤◌, Bool, not, ◌&&◌, List, [], ◌∷◌, is_some, Some, None, Option, ◌==◌, nat_le, slice_index_or}
-use Rattle.limits.specs.First.{unless, first_of}
+use Rattle.limits.specs.First.{among, unless, first_of}
 use Rattle.units.specs.declared.refusal.Refusal.{Refusal}
 use Rattle.units.specs.declared.refusal.Reason.TheVariants.{FigureLimit, FiguresAtOdds}
+use Rattle.units.specs.Refusals.{refusal}
 use Rattle.tables.specs.declared.rows.AssetRow.{AssetRow}
 use Rattle.tables.specs.declared.rows.LocalityRow.{LocalityRow}
-use Rattle.tables.specs.declared.test.Test.{Test}
-use Rattle.tables.specs.declared.test.Test.TheVariants.{Limits, Odds}
 
--- n is one of 1 to most
-abbrev pub among : ℕ → ℕ → Bool
-among most n = nat_le 1 n && nat_le n most
+-- the two tests of an asset row: its figures against their limit, and against one another
+pub data Test : Type 0 where
+  Limits : Test
+  Odds : Test
 
 -- no figure of an asset row exceeds 10^10 cents
 abbrev pub asset_fits : ℕ → Bool
@@ -66,8 +66,8 @@ odds_fault old new = first_of (change_fault old new ∷ rows_fault Odds 5 new.ro
 
 -- refusal 7 at the first figure beyond its limit, or else 8 at the first at odds
 abbrev pub fault_of : Option ℕ → Option ℕ → Option Refusal
-fault_of (Some n) odds = Some (record { reason = FigureLimit; place = n })
-fault_of None (Some n) = Some (record { reason = FiguresAtOdds; place = n })
+fault_of (Some n) odds = Some (refusal FigureLimit n)
+fault_of None (Some n) = Some (refusal FiguresAtOdds n)
 fault_of None None = None
 
 -- what filing figures over those on record meets

@@ -7,18 +7,19 @@ use Rattle.tables.specs.declared.point.Point.{Point}
 use Rattle.tables.specs.Filings.{locality_stands}
 use Rattle.tables.specs.PointRows.{point_stands}
 
-abbrev pub locality_if : (l : LocalityRow) (b : Bool) → locality_stands l ≡ b → Option Locality
-locality_if l true e = Some (record { row = l; stands = e })
-locality_if l false e = None
+module _ {R X : Type 0} (stands : R → Bool) (make : (row : R) → stands row ≡ true → X) where
+  abbrev pub record_if : (row : R) (b : Bool) → stands row ≡ b → Option X
+  record_if row true e = Some (make row e)
+  record_if row false e = None
+
+  -- the record of a row
+  abbrev pub record_of : R → Option X
+  record_of row = record_if row (stands row) refl
 
 -- the locality of a row
 abbrev pub locality_of : LocalityRow → Option Locality
-locality_of l = locality_if l (locality_stands l) refl
-
-abbrev pub point_if : (p : PointRow) (b : Bool) → point_stands p ≡ b → Option Point
-point_if p true e = Some (record { row = p; stands = e })
-point_if p false e = None
+locality_of = record_of locality_stands (λ l e. record { row = l; stands = e })
 
 -- the point of a row
 abbrev pub point_of : PointRow → Option Point
-point_of p = point_if p (point_stands p) refl
+point_of = record_of point_stands (λ p e. record { row = p; stands = e })

@@ -1,24 +1,16 @@
 // What filed figures of a locality meet.
-ghost use Rattle.std.specs.Prelude.{◌≡◌, ◌+◌, ◌≤◌, ◌&&◌, length, nat_le};
-ghost use Rattle.tables.specs.Filings.{among, row_fault, rows_fault, limit_fault, change_fault, odds_fault, filing_fault, locality_stands};
-ghost use Rattle.tables.specs.declared.test.Test.TheVariants.{Limits, Odds};
+ghost use Rattle.std.specs.Prelude.{◌≡◌, ℕ, ◌*◌, ◌<◌, ◌&&◌, nat_le};
+ghost use Rattle.tables.specs.Filings.{Test, Limits, Odds, row_fault, rows_fault, limit_fault, change_fault, odds_fault, filing_fault, locality_stands};
 
 use crate::rows::{AssetRow, LocalityRow};
-use crate::test::Test;
-use limits::{first_of, unless};
+use limits::{among, first_of, unless};
 use units::refusal::{Reason, Refusal};
 
-fn among(most: u64, n: u64) -> bool
-    ensures { result ≡ among most n }
+// The figures of asset row 1 to 8 against their limit. Row r has the figures from 5r.
+fn limit_of_row(row: u8, a: &AssetRow) -> Option<u64>
+    ensures { result ≡ row_fault Limits (5 * row) a.now }
 {
-    1 <= n && n <= most
-}
-
-// A row's figures against their limit.
-fn limit_of_row(n: u64, a: &AssetRow) -> Option<u64>
-    requires { n ≤ 1000 }
-    ensures { result ≡ row_fault Limits n a.now }
-{
+    let n = 5 * row as u64;
     first_of(&[
         unless(a.gross <= 10_000_000_000, n),
         unless(a.net <= 10_000_000_000, n + 1),
@@ -35,10 +27,10 @@ fn remaining_fits(a: &AssetRow) -> bool
 }
 
 // A row's figures against one another; of two at odds the later is named.
-fn odds_of_row(n: u64, a: &AssetRow) -> Option<u64>
-    requires { n ≤ 1000 }
-    ensures { result ≡ row_fault Odds n a.now }
+fn odds_of_row(row: u8, a: &AssetRow) -> Option<u64>
+    ensures { result ≡ row_fault Odds (5 * row) a.now }
 {
+    let n = 5 * row as u64;
     first_of(&[
         unless(a.net <= a.gross, n + 1),
         unless(a.contributions <= a.gross, n + 3),
@@ -46,32 +38,24 @@ fn odds_of_row(n: u64, a: &AssetRow) -> Option<u64>
     ])
 }
 
-fn fault_of_row(test: Test, n: u64, a: &AssetRow) -> Option<u64>
-    requires { n ≤ 1000 }
-    ensures { result ≡ row_fault test n a.now }
-{
-    match test {
-        Test::Limits => limit_of_row(n, a),
-        Test::Odds => odds_of_row(n, a),
-    }
-}
-
-fn fault_of_rows(test: Test, rows: &[AssetRow]) -> Option<u64>
-    requires { length rows.now ≤ 8 }
+// The first fault of asset rows, by one test of a row and its number.
+fn fault_of_rows<F: Fn(u8, &AssetRow) -> Option<u64>>(rows: &[AssetRow; 8], fault: F) -> Option<u64>
+    ghost test: { Test }
+    requires callable { F.IsAlwaysCallable fault }
+    requires tests { (row : ℕ) (a : _) (r : _) → row < 256 → F.post fault row a r → r ≡ row_fault test (5 * row) a.now }
     ensures { result ≡ rows_fault test 5 rows.now }
 {
-    let mut n = 5;
-    for a in rows {
-        let fault = fault_of_row(test, n, a);
-        if fault.is_some() {
-            return fault;
+    for (i, a) in rows.iter().enumerate() {
+        let found = fault(i as u8 + 1, a);
+        if found.is_some() {
+            return found;
         }
-        n += 5;
     }
     None
 }
 
 // The first figure beyond its limit.
+#[tactic(auto, unfolding(crate::specs::Filings::limit_fault))]
 fn limit_fault(l: &LocalityRow) -> Option<u64>
     ensures { result ≡ limit_fault l.now }
 {
@@ -80,7 +64,7 @@ fn limit_fault(l: &LocalityRow) -> Option<u64>
         unless(among(8, l.area), 2),
         unless(l.expected <= 10_000_000, 3),
         unless(l.smart <= 10_000_000, 4),
-        fault_of_rows(Test::Limits, &l.rows),
+        fault_of_rows(&l.rows, limit_of_row),
     ])
 }
 
@@ -88,21 +72,23 @@ fn limit_fault(l: &LocalityRow) -> Option<u64>
 fn change_fault(old: &Option<LocalityRow>, new: &LocalityRow) -> Option<u64>
     ensures { result ≡ change_fault old.now new.now }
 {
-    match old {
-        Some(old) => first_of(&[
-            unless(new.company == old.company, 0),
-            unless(new.state == old.state, 1),
-            unless(new.area == old.area, 2),
-        ]),
-        None => None,
-    }
+    let old = old.as_ref()?;
+    first_of(&[
+        unless(new.company == old.company, 0),
+        unless(new.state == old.state, 1),
+        unless(new.area == old.area, 2),
+    ])
 }
 
 // The first figure at odds.
+#[tactic(auto, unfolding(crate::specs::Filings::odds_fault))]
 fn odds_fault(old: &Option<LocalityRow>, new: &LocalityRow) -> Option<u64>
     ensures { result ≡ odds_fault old.now new.now }
 {
-    first_of(&[change_fault(old, new), fault_of_rows(Test::Odds, &new.rows)])
+    first_of(&[
+        change_fault(old, new),
+        fault_of_rows(&new.rows, odds_of_row),
+    ])
 }
 
 /// What filing these figures meets, over those on record if there are any: 7 at the first figure beyond its limit, else 8 at
@@ -110,22 +96,15 @@ fn odds_fault(old: &Option<LocalityRow>, new: &LocalityRow) -> Option<u64>
 pub fn filing_fault(old: &Option<LocalityRow>, new: &LocalityRow) -> Option<Refusal>
     ensures { result ≡ filing_fault old.now new.now }
 {
-    if let Some(place) = limit_fault(new) {
-        return Some(Refusal {
-            reason: Reason::FigureLimit,
-            place,
-        });
+    if let Some(n) = limit_fault(new) {
+        return Some(Reason::FigureLimit.at(n));
     }
-    match odds_fault(old, new) {
-        Some(place) => Some(Refusal {
-            reason: Reason::FiguresAtOdds,
-            place,
-        }),
-        None => None,
-    }
+    let n = odds_fault(old, new)?;
+    Some(Reason::FiguresAtOdds.at(n))
 }
 
 /// Whether a row counts as a locality.
+#[tactic(auto, unfolding(crate::specs::Filings::locality_stands))]
 pub fn locality_stands(l: &LocalityRow) -> bool
     ensures { result ≡ locality_stands l.now }
 {

@@ -10,4 +10,3 @@ pub mod point;
 pub mod rows;
 pub mod service;
 pub mod state;
-mod test;

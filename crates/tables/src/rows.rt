@@ -1,7 +1,40 @@
-// The plain rows of the two tables that are lent to the book. A row outside its limits counts as blank.
+// The plain rows of the two tables that are lent to the book.
+ghost use Rattle.std.specs.Prelude.{◌≡◌, Bool, true, false, Option, MatchOption};
+
+/// A row of a lent table. It stands if it keeps its limits; any other row counts as blank.
+pub trait Row: Copy {
+    /// What stands in a row.
+    type Record;
+
+    ghost stands: { Self → Bool };
+
+    ghost record_of: { Self → Option Self.Record };
+
+    ghost row_of: { Self.Record → Self };
+
+    // What is read past the end of a table.
+    ghost past: { Self };
+
+    ghost blank: { Self };
+
+    /// The record that stands in the row; a blank row has none.
+    fn record(&self) -> Option<Self::Record>
+        ensures value { result ≡ record_of self.now }
+        ensures row { MatchOption result (stands self.now ≡ false) (λ r. row_of r ≡ self.now) };
+
+    /// A row with no figures.
+    fn blank() -> Self
+        ensures { result ≡ blank };
+
+    ghost past_is_blank: { stands past ≡ false };
+
+    ghost records_stand: { (r : Self.Record) → stands (row_of r) ≡ true };
+}
+
+// The rows hold plain numbers, also for a state or a class: the caller lends them, and one outside its limits counts as blank.
 
 /// An asset row of a locality, in cents.
-#[derive(Clone, Copy)]
+#[derive(Clone, Copy, Debug, Default, PartialEq, Eq)]
 pub struct AssetRow {
     pub gross: u64,
     pub net: u64,
@@ -13,7 +46,7 @@ pub struct AssetRow {
 }
 
 /// A locality as it is filed. Rows 1 to 5 are distribution, 6 to 8 metering.
-#[derive(Clone, Copy)]
+#[derive(Clone, Copy, Debug, Default, PartialEq, Eq)]
 pub struct LocalityRow {
     pub company: u64,
     /// 1 in regime, 2 in start-up.
@@ -25,7 +58,7 @@ pub struct LocalityRow {
 }
 
 /// A delivery point, with its volume and days of the year to date.
-#[derive(Clone, Copy)]
+#[derive(Clone, Copy, Debug, Default, PartialEq, Eq)]
 pub struct PointRow {
     pub locality: u64,
     pub class: u64,

@@ -2,19 +2,16 @@
 ghost use Rattle.std.specs.Prelude.{◌≡◌};
 ghost use Rattle.tables.specs.States.{state_number};
 
-#[derive(Clone, Copy)]
+#[derive(Clone, Copy, Debug, PartialEq, Eq)]
 pub enum State {
-    Regime,
-    StartUp,
+    Regime = 1,
+    StartUp = 2,
 }
 
 impl State {
     pub fn number(self) -> u64
         ensures { result ≡ state_number self }
     {
-        match self {
-            State::Regime => 1,
-            State::StartUp => 2,
-        }
+        self as u64
     }
 }

@@ -3,13 +3,14 @@ use Rattle.std.specs.Prelude.{◌≡◌, ℕ, ◌<◌, ◌≤◌, Bool, cond, �
 use Rattle.units.specs.declared.refusal.Reason.{Reason}
 use Rattle.units.specs.declared.refusal.Reason.TheVariants.{PastTable, NothingThere, PlaceTaken, FigureLimit}
 use Rattle.units.specs.declared.refusal.Refusal.{Refusal}
+use Rattle.units.specs.Refusals.{refusal}
 use Rattle.tariff.specs.declared.bill.Bill.{Bill}
 use Rattle.tariff.specs.declared.figures.TariffFigures.{TariffFigures}
-use Rattle.tariff.specs.PlainBills.{bill_at}
+use Rattle.tariff.specs.Bills.{bill_at}
 use Rattle.temkovje.specs.declared.points.Row.{Row}
 
 abbrev pub refused : {X : Type 0} → Reason → ℕ → Result X Refusal
-refused reason place = Err (record { reason = reason; place = place })
+refused reason place = Err (refusal reason place)
 
 -- a point that is put at a place: past the table, at a taken place, of a class or with a domestic sign beyond its limit it is refused
 abbrev pub point_answer : List (Option Row) → ℕ → ℕ → ℕ → ℕ → Result Row Refusal

@@ -2,9 +2,10 @@
 ghost use Rattle.std.specs.Prelude.{◌≡◌};
 ghost use Rattle.temkovje.specs.Points.{point_answer, point_after, Absent, charged, bill_answer_at, bill_after};
 
+use limits::among;
 use std::fmt;
 use tariff::bill::Bill;
-use tariff::supply::{Reading, Supply};
+use tariff::supply::{Change, Reading, Supply};
 use tariff::table::Tariff;
 use units::refusal::{Reason, Refusal};
 
@@ -41,28 +42,16 @@ pub fn put_point(
     ensures after { rows.new ≡ point_after rows.old place result }
 {
     if place >= rows.len() as u64 {
-        return Err(Refusal {
-            reason: Reason::PastTable,
-            place,
-        });
+        return Err(Reason::PastTable.at(place));
     }
     if rows[place as usize].is_some() {
-        return Err(Refusal {
-            reason: Reason::PlaceTaken,
-            place,
-        });
+        return Err(Reason::PlaceTaken.at(place));
     }
-    if class < 1 || class > 3 {
-        return Err(Refusal {
-            reason: Reason::FigureLimit,
-            place: 1,
-        });
+    if !among(3, class) {
+        return Err(Reason::FigureLimit.at(1));
     }
     if domestic > 1 {
-        return Err(Refusal {
-            reason: Reason::FigureLimit,
-            place: 2,
-        });
+        return Err(Reason::FigureLimit.at(2));
     }
     let row = Row {
         area,
@@ -80,24 +69,17 @@ pub fn bill_point(
     tariff: &Tariff,
     rows: &mut [Option<Row>],
     place: u64,
-    volume: i64,
-    days: i64,
+    change: Change,
 ) -> Result<Bill, Refusal>
     ensures absent { Absent rows.old place result }
-    ensures answer { result ≡ bill_answer_at tariff.now.figures rows.old place volume days }
+    ensures answer { result ≡ bill_answer_at tariff.now.figures rows.old place change.volume change.days }
     ensures after { rows.new ≡ bill_after rows.old place result }
 {
     if place >= rows.len() as u64 {
-        return Err(Refusal {
-            reason: Reason::PastTable,
-            place,
-        });
+        return Err(Reason::PastTable.at(place));
     }
-    let row = rows[place as usize].ok_or(Refusal {
-        reason: Reason::NothingThere,
-        place,
-    })?;
-    let bill = charge(tariff, row, volume, days).map_err(|reason| Refusal { reason, place })?;
+    let row = rows[place as usize].ok_or(Reason::NothingThere.at(place))?;
+    let bill = charge(tariff, row, change).map_err(|reason| reason.at(place))?;
     rows[place as usize] = Some(Row {
         volume: bill.volume,
         days: bill.days,
@@ -107,10 +89,10 @@ pub fn bill_point(
 }
 
 // The bill of a row; one outside its limits counts as blank.
-fn charge(tariff: &Tariff, row: Row, volume: i64, days: i64) -> Result<Bill, Reason>
-    ensures { result ≡ charged tariff.now.figures row volume days }
+fn charge(tariff: &Tariff, row: Row, change: Change) -> Result<Bill, Reason>
+    ensures { result ≡ charged tariff.now.figures row change.volume change.days }
 {
     let supply = Supply::new(row.area, row.class, row.domestic).ok_or(Reason::NothingThere)?;
     let at = Reading::new(row.volume, row.days).ok_or(Reason::NothingThere)?;
-    tariff.bill(supply, at, volume, days)
+    tariff.bill(supply, at, change)
 }

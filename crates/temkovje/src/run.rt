@@ -8,7 +8,9 @@ use bookfile::calls::Call;
 use bookfile::file::{Unread, read};
 use bookfile::naming::figure_at;
 use std::alloc::{AllocError, Global};
+use std::error::Error;
 use std::{fmt, io};
+use tariff::supply::Change;
 use tariff::table::Tariff;
 use units::refusal::Refusal;
 
@@ -16,7 +18,7 @@ use units::refusal::Refusal;
 const PLACES: usize = 65536;
 
 /// Why a book file is not run.
-#[derive(Clone, Copy)]
+#[derive(Clone, Copy, Debug)]
 pub enum Failure {
     /// The book file cannot be read from where it lies.
     Input(io::Error),
@@ -75,11 +77,16 @@ impl fmt::Display for Failure {
     }
 }
 
+impl Error for Failure {}
+
 /// Reads a book file and runs its calls; a file that is malformed or whose tariff is refused runs none.
 pub fn run_book(heap: Global, text: &str) -> Result<String, Failure> {
     let book = read(heap, text)?;
     let brackets = book.tariff.count;
-    let tariff = Tariff::new(book.tariff).map_err(|refusal| Failure::Tariff { refusal, brackets })?;
+    let tariff = Tariff::try_from(book.tariff).map_err(|refusal| Failure::Tariff {
+        refusal,
+        brackets,
+    })?;
     let mut rows: Vec<Option<Row>> = vec![in heap; None; PLACES]?;
     let mut out = String::new(heap);
     for numbered in book.calls.iter() {
@@ -107,8 +114,8 @@ fn answer<W: fmt::Write>(
             volume,
             days,
         } => {
-            let answer = bill_point(tariff, rows, point, volume, days);
-            write_bill(out, point, volume, days, answer)
+            let change = Change { volume, days };
+            write_bill(out, point, change, bill_point(tariff, rows, point, change))
         }
     }
 }

@@ -5,7 +5,7 @@ use crate::tariffs::{table_at, tariffs};
 use anyhow::anyhow;
 use std::array;
 use tables::locality::Locality;
-use tables::rows::{AssetRow, LocalityRow};
+use tables::rows::{AssetRow, LocalityRow, Row};
 use tables::service::Service;
 use tariff::table::Tariff;
 
@@ -28,7 +28,7 @@ fn locality(numbers: &mut Numbers) -> anyhow::Result<Locality> {
         smart: numbers.take(),
         rows: array::from_fn(|_| asset_row(numbers)),
     };
-    row.locality()
+    row.record()
         .ok_or(anyhow!("a locality beyond its limits"))
 }
 

@@ -12,7 +12,7 @@ use crate::costs::Costs;
 use crate::lent::Tables;
 use crate::parts::Revenue;
 use crate::served::Served;
-use tables::rows::LocalityRow;
+use tables::rows::{LocalityRow, Row};
 use tariff::table::Tariff;
 
 // What a row of the locality table adds to a company's revenue.
@@ -20,7 +20,7 @@ fn of_locality(tariff: &Tariff, company: u64, row: &LocalityRow) -> u64
     ensures value { result ≡ (if owns company row.now then locality_figure tariff.now.figures row.now else 0) }
     ensures small { result ≤ 5000000000000 }
 {
-    let Some(locality) = row.locality() else {
+    let Some(locality) = row.record() else {
         return 0;
     };
     if locality.row().company == company {

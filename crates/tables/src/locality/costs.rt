@@ -3,31 +3,19 @@ ghost use Rattle.std.specs.Prelude.{◌≡◌, ◌*◌, ◌≤◌, length, pos};
 ghost use Rattle.rounding.specs.Frac.{over};
 ghost use Rattle.rounding.specs.Rounding.{rounded};
 ghost use Rattle.rounding.specs.Nearness.{Near};
-ghost use Rattle.tables.specs.Filings.{AllHeld};
 ghost use Rattle.tables.specs.Costs.{of_service, row_count, capital_cost, exact_fees, exact_remote_reading, additions, locality_figure, exact_locality_figure, unit_component};
 
-use crate::assets::{depreciation, return_of};
+use crate::assets::Assets;
 use crate::locality::Locality;
-use crate::rows::AssetRow;
 use crate::service::Service;
-use tariff::figures::{Life, TariffFigures};
+use crate::state::State;
 use tariff::table::Tariff;
 use units::refusal::{Reason, Refusal};
 
-// The lives of a service's rows.
-fn lives_of(t: &TariffFigures, service: Service) -> &[Life]
-    ensures value { result.now ≡ of_service service t.now.lives }
-    ensures len { length result.now ≡ row_count service }
-{
-    match service {
-        Service::Distribution => &t.lives[0..5],
-        Service::Metering => &t.lives[5..],
-    }
-}
-
 // A price for each of some points, in cents.
 fn for_points(price: u64, points: u64) -> u64
-    requires { (price ≤ 2000000000) × (points ≤ 10000000) }
+    requires cheap { price ≤ 2000000000 }
+    requires few { points ≤ 10000000 }
     ensures value { result ≡ rounded (over (price * points) 10000) }
     ensures small { result ≤ 2000000000000 }
 {
@@ -35,14 +23,12 @@ fn for_points(price: u64, points: u64) -> u64
 }
 
 impl Locality {
-    fn rows_of(&self, service: Service) -> &[AssetRow]
-        ensures value { result.now ≡ of_service service self.now.row.rows }
-        ensures len { length result.now ≡ row_count service }
-        ensures held { AllHeld result.now }
+    fn assets_of(&self, service: Service) -> Assets
+        ensures value { result.rows.now ≡ of_service service self.now.row.rows }
+        ensures len { length result.rows.now ≡ row_count service }
     {
-        match service {
-            Service::Distribution => &self.row.rows[0..5],
-            Service::Metering => &self.row.rows[5..],
+        Assets {
+            rows: service.part(&self.row.rows),
         }
     }
 
@@ -52,8 +38,8 @@ impl Locality {
         ensures small { result ≤ 112256000000 }
     {
         let t = tariff.figures();
-        let rows = self.rows_of(service);
-        return_of(rows, t.rate) + depreciation(rows, lives_of(t, service))
+        let assets = self.assets_of(service);
+        assets.return_at(t.rate) + assets.depreciation(service.part(&t.lives))
     }
 
     // cou and coa for each expected point.
@@ -62,7 +48,7 @@ impl Locality {
         ensures small { result ≤ 2000000000000 }
     {
         let t = tariff.figures();
-        for_points(t.cou.0 + t.coa.0, self.row.expected)
+        for_points(t.cou.0 + t.coa.0, self.row().expected)
     }
 
     // telcon for each smart point.
@@ -71,7 +57,7 @@ impl Locality {
         ensures small { result ≤ 2000000000000 }
     {
         let t = tariff.figures();
-        for_points(t.telcon.0, self.row.smart)
+        for_points(t.telcon.0, self.row().smart)
     }
 
     /// What a locality in regime adds: the fees for its concession, and remote reading.
@@ -79,10 +65,9 @@ impl Locality {
         ensures value { result ≡ additions tariff.now.figures self.now.row }
         ensures small { result ≤ 4000000000000 }
     {
-        if self.row.state == 1 {
-            self.fees(tariff) + self.remote_reading(tariff)
-        } else {
-            0
+        match self.state() {
+            State::Regime => self.fees(tariff) + self.remote_reading(tariff),
+            State::StartUp => 0,
         }
     }
 
@@ -107,10 +92,7 @@ impl Locality {
         ensures { result ≡ unit_component tariff.now.figures service self.now.row place }
     {
         if self.row.expected == 0 {
-            return Err(Refusal {
-                reason: Reason::NoExpectedPoints,
-                place,
-            });
+            return Err(Reason::NoExpectedPoints.at(place));
         }
         Ok(rounding::round_half_up(
             self.capital_cost(tariff, service) * 10_000,

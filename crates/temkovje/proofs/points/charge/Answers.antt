@@ -12,8 +12,8 @@ returns c =
     let supply = sym c.new.ensures.test ∙ ap is_some c.in_ok-supply.ensures.ok_part in
     let reading = sym c.new-2.ensures.test ∙ ap is_some c.in_ok-at.ensures.ok_part in
     let within : within_limits row ≡ true = rw supply reading in
-    let billed = rw (to_z-of_z w64 c.args.volume c.ranges.volume, to_z-of_z w64 c.args.days c.ranges.days) at c.bill.ensures in
+    let billed = c.bill.ensures in
     billed
-    ∙ charged_as c.args.tariff.now.figures row c.in_ok-supply.supply c.in_ok-at.at c.args.volume c.args.days within
+    ∙ charged_as c.args.tariff.now.figures row c.in_ok-supply.supply c.in_ok-at.at c.args.change.volume c.args.change.days within
     (MatchOption-at_some (Unit {0}) (λ s. (s.area ≡ row.area) × (s.class ≡ row.class) × (s.domestic ≡ row.domestic)) _ c.in_ok-supply.ensures.ok_part c.new.ensures.kept)
     (MatchOption-at_some (Unit {0}) (λ at. (at.volume ≡ row.volume) × (at.days ≡ row.days)) _ c.in_ok-at.ensures.ok_part c.new-2.ensures.kept)

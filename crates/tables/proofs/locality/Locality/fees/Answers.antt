@@ -1,10 +1,8 @@
 use Rattle.std.proofs.Common.{arith}
-use Rattle.tables.proofs.Holding.{held}
 use Rattle.tables.proofs.locality.Locality.fees.Goals as goal
 
 pub overflow_add-t : goal.overflow_add-t
 overflow_add-t c = omega (arith, c.figures-t.ensures.within.costs 0, c.figures-t.ensures.within.costs 1)
 
-pub for_points-requires : goal.for_points-requires
-for_points-requires c =
-    (omega (arith, c.figures-t.ensures.within.costs 0, c.figures-t.ensures.within.costs 1), (held c.args.self.now.row c.args.self.now.stands).expected)
+pub for_points-requires-clause-cheap : goal.for_points-requires-clause-cheap
+for_points-requires-clause-cheap c = omega (arith, c.figures-t.ensures.within.costs 0, c.figures-t.ensures.within.costs 1)

@@ -2,7 +2,7 @@ use Rattle.std.proofs.Common.{◌*◌, mul-le-mul, arith}
 use Rattle.rounding.proofs.HalfLaw.{rounded_at_most}
 use Rattle.tables.proofs.locality.costs.for_points.Goals as goal
 
-pub returns : goal.returns
-returns c =
-    let s = rounded_at_most (c.args.price * c.args.points) 10000 2000000000000 (omega (arith, mul-le-mul c.requires.0 c.requires.1)) in
-    record { value = c.round_half_up.ensures; small = omega (arith, c.round_half_up.ensures, s) }
+pub returns-clause-small : goal.returns-clause-small
+returns-clause-small c =
+    let s = rounded_at_most (c.args.price * c.args.points) 10000 2000000000000 (omega (arith, mul-le-mul c.requires.cheap c.requires.few)) in
+    omega (arith, c.round_half_up.ensures, s)
