@@ -4,7 +4,7 @@ ghost use Rattle.std.specs.Prelude.{◌≡◌, ◌≤◌, ◌&&◌, is_some, IfS
 use units::amounts::PointPrice;
 
 /// The operating price by the company's management rule, and its yearly verification and central cost in cents.
-#[derive(Clone, Copy)]
+#[derive(Clone, Copy, Debug, PartialEq, Eq)]
 pub struct Costs {
     pub(crate) operating: PointPrice,
     pub(crate) verification: u64,

@@ -3,7 +3,7 @@
 pub mod total;
 
 /// What makes up the recognised revenue of a company, in cents.
-#[derive(Clone, Copy)]
+#[derive(Clone, Copy, Debug, PartialEq, Eq)]
 pub struct Revenue {
     /// What its localities add.
     pub localities: u64,

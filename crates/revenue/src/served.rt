@@ -7,7 +7,7 @@ pub mod makes;
 pub mod parts;
 
 /// Served points by the state of their localities.
-#[derive(Clone, Copy)]
+#[derive(Clone, Copy, Debug, PartialEq, Eq)]
 pub struct Served {
     pub regime: MilliPoints,
     pub startup: MilliPoints,

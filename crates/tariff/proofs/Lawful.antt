@@ -3,6 +3,7 @@ use Rattle.std.proofs.Common.{◌≡◌, ℕ, zero, suc, ◌+◌, ◌*◌, ◌<�
 use Rattle.std.proofs.lemmas.Bool.{and_parts, and_from, or_cases, or_left, or_right, leb-true, ltb-true, eqb-true, le-leb, lt-ltb, eq-eqb, cond-true}
 use Rattle.tariff.specs.declared.figures.Bracket.{Bracket}
 use Rattle.tariff.specs.declared.figures.TariffFigures.{TariffFigures}
+use Rattle.tariff.specs.declared.table.Tariff.{Tariff}
 use Rattle.limits.specs.First.{point_price_fits, volume_price_fits, first_of}
 use Rattle.limits.proofs.Firsts.{none_at, goes_on, fits_of, fits_at, none_cons, none_unless, none_beyond}
 use Rattle.tariff.specs.Limits.{days_fit, commercial_fits, count_fits, coefficient_fits, rate_fits, life_fits, reference_fits, first_bad_end, brackets_of, components_of, costs_of, no_bracket, fixed_tests, variable_tests, cost_tests, first_bad_figure, Within}
@@ -48,6 +49,10 @@ within f h =
       lives = λ i. leb-true _ _ (fits_at life_fits (record { 0 = 0 }) refl (63 + 2 * f.count) f.lives (cost 1) i);
       costs = λ i. leb-true _ _ (fits_at point_price_fits (record { 0 = 0 }) refl (71 + 2 * f.count) (costs_of f) (cost 2) i);
     }
+
+-- so a tariff table keeps every limit
+pub held : (t : Tariff) → Within t.figures
+held t = within t.figures t.lawful
 
 -- ---- And back
 none_ends : (n : ℕ) (bs : List Bracket) → ((i : ℕ) → suc i < length bs → (get_or bs i no_bracket).end < (get_or bs (suc i) no_bracket).end) → ((i : ℕ) → suc i ≡ length bs → (get_or bs i no_bracket).end ≡ 1000000000) → is_some (first_bad_end n bs) ≡ false

@@ -84,6 +84,7 @@ fn count_fits(count: usize) -> bool
 }
 
 // The days, the fixed charges and the number of brackets.
+#[tactic(auto, unfolding(crate::specs::Limits::fixed_tests))]
 fn first_bad_fixed(f: &TariffFigures) -> Option<u64>
     ensures { result ≡ first_of (fixed_tests f.now) }
 {
@@ -122,6 +123,7 @@ impl<'a> Counted<'a> {
     }
 
     // The brackets, the areas' coefficients, GS and UG1.
+    #[tactic(auto, unfolding(crate::specs::Limits::variable_tests))]
     fn first_bad_variable(self) -> Option<u64>
         ensures { result ≡ first_of (variable_tests self.entry.figures.now) }
     {
@@ -136,6 +138,7 @@ impl<'a> Counted<'a> {
     }
 
     // The rate of return, the lives and the prices that make up recognised revenue.
+    #[tactic(auto, unfolding(crate::specs::Limits::cost_tests))]
     fn first_bad_cost(self) -> Option<u64>
         ensures { result ≡ first_of (cost_tests self.entry.figures.now) }
     {

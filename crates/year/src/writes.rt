@@ -1,4 +1,5 @@
-// The calls that write the companies, localities and points of a year.
+// The calls that write the companies, localities and points of a year. Each borrows what it reads and, to write, the one table that it changes:
+// one value of all three would no longer say in the signature which tables stay.
 ghost use Rattle.std.specs.Prelude.{◌≡◌, Some, slice_index_or};
 ghost use Rattle.limits.specs.Checked.{made_of};
 ghost use Rattle.tables.specs.Blank.{no_point};
