@@ -2,5 +2,4 @@ pub mod Fronts
 pub mod Nearing
 pub mod Shares
 pub mod Turns
-pub mod Owning
 pub mod Replacing

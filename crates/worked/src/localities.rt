@@ -28,8 +28,7 @@ fn locality(numbers: &mut Numbers) -> anyhow::Result<Locality> {
         smart: numbers.take(),
         rows: array::from_fn(|_| asset_row(numbers)),
     };
-    row.record()
-        .ok_or(anyhow!("a locality beyond its limits"))
+    row.record().ok_or(anyhow!("a locality beyond its limits"))
 }
 
 // The unit component; where it is refused, the number of the refusal in place of an answer.
