@@ -13,7 +13,8 @@ use Rattle.tables.specs.Lookups.{locality_at, point_at}
 use Rattle.company.specs.declared.figures.TermsFigures.{TermsFigures}
 use Rattle.company.specs.declared.terms.Terms.{Terms}
 use Rattle.company.specs.Terms.{checked}
-use Rattle.calls.specs.Steps.{when, found, faultless, refused_at, next}
+use Rattle.limits.specs.Checked.{faultless}
+use Rattle.calls.specs.Steps.{when, found, refused_at, next}
 
 -- the sixteen companies, each with the terms that it registered
 abbrev pub Companies : Type 0

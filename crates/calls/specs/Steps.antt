@@ -14,11 +14,6 @@ abbrev pub found : {A X : Type 0} → Option A → ℕ → (A → Result X Refus
 found None place rest = Err (refusal NothingThere place)
 found (Some a) place rest = rest a
 
--- a fault that was found, or what is granted without one
-abbrev pub faultless : {X : Type 0} → Option Refusal → X → Result X Refusal
-faultless (Some fault) x = Err fault
-faultless None x = Ok x
-
 -- a refusal that names its reason alone names this place
 abbrev pub refused_at : {X : Type 0} → ℕ → Result X Reason → Result X Refusal
 refused_at place (Ok x) = Ok x

@@ -4,7 +4,7 @@ ghost use Rattle.calls.specs.Decisions.{filing};
 
 use crate::places::company_at;
 use company::terms::Terms;
-use tables::filing::filing_fault;
+use tables::filing::check_filing;
 use tables::lookup::record_at;
 use tables::rows::LocalityRow;
 use units::refusal::{Reason, Refusal};
@@ -30,8 +30,6 @@ pub fn filing(
     }
     company_at(companies, row.company).ok_or(Reason::NothingThere.at(row.company))?;
     let old = record_at(localities, place).map(|locality| locality.row());
-    match filing_fault(&old, &row) {
-        Some(fault) => Err(fault),
-        None => Ok(row),
-    }
+    check_filing(&old, &row)?;
+    Ok(row)
 }

@@ -12,3 +12,8 @@ unless_bad reason x (Some n) = Err (record { reason = reason; place = n })
 abbrev pub made_of : {X Y : Type 0} → (Y → X) → Result Y Refusal → Result X Refusal
 made_of figures (Ok y) = Ok (figures y)
 made_of figures (Err e) = Err e
+
+-- a fault that was found, or what is granted without one
+abbrev pub faultless : {X : Type 0} → Option Refusal → X → Result X Refusal
+faultless (Some fault) x = Err fault
+faultless None x = Ok x

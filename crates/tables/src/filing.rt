@@ -1,9 +1,10 @@
 // What filed figures of a locality meet.
 ghost use Rattle.std.specs.Prelude.{◌≡◌, ℕ, ◌*◌, ◌<◌, ◌&&◌, nat_le};
+ghost use Rattle.limits.specs.Checked.{faultless};
 ghost use Rattle.tables.specs.Filings.{Test, Limits, Odds, row_fault, rows_fault, limit_fault, change_fault, odds_fault, filing_fault, locality_stands};
 
 use crate::rows::{AssetRow, LocalityRow};
-use limits::{among, first_of, unless};
+use limits::{among, first_of, unless, unless_bad};
 use units::refusal::{Reason, Refusal};
 
 // The figures of asset row 1 to 8 against their limit. Row r has the figures from 5r.
@@ -91,16 +92,13 @@ fn odds_fault(old: &Option<LocalityRow>, new: &LocalityRow) -> Option<u64>
     ])
 }
 
-/// What filing these figures meets, over those on record if there are any: 7 at the first figure beyond its limit, else 8 at
+/// Refuses figures that may not be filed over those on record, if there are any: by 7 at the first figure beyond its limit, else by 8 at
 /// the first at odds.
-pub fn filing_fault(old: &Option<LocalityRow>, new: &LocalityRow) -> Option<Refusal>
-    ensures { result ≡ filing_fault old.now new.now }
+pub fn check_filing(old: &Option<LocalityRow>, new: &LocalityRow) -> Result<(), Refusal>
+    ensures { result ≡ faultless (filing_fault old.now new.now) tt }
 {
-    if let Some(n) = limit_fault(new) {
-        return Some(Reason::FigureLimit.at(n));
-    }
-    let n = odds_fault(old, new)?;
-    Some(Reason::FiguresAtOdds.at(n))
+    unless_bad(Reason::FigureLimit, limit_fault(new))?;
+    unless_bad(Reason::FiguresAtOdds, odds_fault(old, new))
 }
 
 /// Whether a row counts as a locality.
@@ -108,5 +106,5 @@ pub fn filing_fault(old: &Option<LocalityRow>, new: &LocalityRow) -> Option<Refu
 pub fn locality_stands(l: &LocalityRow) -> bool
     ensures { result ≡ locality_stands l.now }
 {
-    l.company <= 15 && filing_fault(&None, l).is_none()
+    l.company <= 15 && check_filing(&None, l).is_ok()
 }

@@ -41,7 +41,7 @@ impl Limited for Bracket {
 
 // `first_beyond` at lists as short as those of a tariff table.
 fn first_bad<F: Limited>(first: u64, list: &[F]) -> Option<u64>
-    requires { (first ≤ 1000) × (length list.now ≤ 1000) }
+    requires { first + length list.now ≤ 2000 }
     ensures { result ≡ first_beyond F.Limited.fits first list.now }
 {
     first_beyond(first, list)

@@ -33,10 +33,9 @@ fn locality(numbers: &mut Numbers) -> anyhow::Result<Locality> {
 
 // The unit component; where it is refused, the number of the refusal in place of an answer.
 fn component(locality: &Locality, table: &Tariff, service: Service) -> u64 {
-    match locality.unit_component(table, service, 0) {
-        Ok(component) => component,
-        Err(refusal) => refusal.number() as u64,
-    }
+    locality
+        .unit_component(table, service, 0)
+        .unwrap_or_else(|refusal| u64::from(refusal.number()))
 }
 
 fn compare_line(

@@ -8,9 +8,11 @@ use crate::parts::Revenue;
 use crate::served::Served;
 use tariff::table::Tariff;
 
-// A price for thousandths of points, in cents.
+// A price for thousandths of points, in cents. A locality's `for_points` has whole points and other bounds: one function for both would take all
+// three as parameters.
 fn for_points(price: u64, points: u64) -> u64
-    requires { (price ≤ 2000000000) × (points ≤ 262930432) }
+    requires price { price ≤ 2000000000 }
+    requires points { points ≤ 262930432 }
     ensures { result ≡ rounded (exact_for_points price points) }
 {
     rounding::round_half_up(price * points, 10_000_000)
