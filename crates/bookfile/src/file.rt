@@ -21,7 +21,7 @@ pub struct NumberedCall {
 }
 
 /// What a book file says: the tariff table as it is filed, and the calls in their order.
-#[derive(Drop)]
+#[derive(Debug, Drop)]
 pub struct BookFile {
     pub tariff: TariffFigures,
     pub calls: Vec<NumberedCall>,

@@ -6,7 +6,7 @@ use company::terms::Terms;
 use tables::rows::{LocalityRow, PointRow};
 
 /// The sixteen companies, and the two tables that are lent to a book.
-#[derive(Clone, Copy)]
+#[derive(Clone, Copy, Debug, PartialEq, Eq)]
 pub struct Lent<'a> {
     pub companies: &'a [Option<Terms>; 16],
     pub localities: &'a [LocalityRow],

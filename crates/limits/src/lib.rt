@@ -58,6 +58,7 @@ pub fn unless(fits: bool, number: u64) -> Option<u64>
 pub fn first_of(found: &[Option<u64>]) -> Option<u64>
     ensures { result ≡ first_of found.now }
 {
+    // Not `find_map`: what it promises does not tell a proof that no earlier one was found.
     for number in found {
         if number.is_some() {
             return *number;

@@ -8,7 +8,7 @@ pub mod revenue;
 pub mod sums;
 
 /// The locality table, of at most 256 rows, and the point table, of at most 65,536.
-#[derive(Clone, Copy)]
+#[derive(Clone, Copy, Debug, PartialEq, Eq)]
 pub struct Tables<'a> {
     pub(crate) localities: &'a [LocalityRow],
     pub(crate) points: &'a [PointRow],

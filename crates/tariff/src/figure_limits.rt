@@ -1,11 +1,10 @@
 // Which figure of a tariff table is the first beyond its limit.
 ghost use Rattle.std.specs.Prelude.{◌≡◌, ◌+◌, ◌≤◌, ◌<◌, Bool, false, length, is_some, MatchOption};
 ghost use Rattle.limits.specs.First.{first_beyond, first_of};
-ghost use Rattle.tariff.specs.Limits.{days_fit, commercial_fits, count_fits, rate_fits, coefficient_fits, life_fits, reference_fits, brackets_of, first_bad_end, fixed_tests, variable_tests, cost_tests, first_bad_figure, Within};
+ghost use Rattle.tariff.specs.Limits.{days_fit, rate_fits, coefficient_fits, life_fits, reference_fits, brackets_of, first_bad_end, fixed_tests, variable_tests, cost_tests, first_bad_figure, Within};
 
 use crate::figures::{Bracket, Coefficient, Life, Rate, TariffFigures};
-use limits::{Limited, first_beyond, first_of, unless};
-use units::amounts::PointPrice;
+use limits::{Limited, among, first_beyond, first_of, unless};
 
 impl Limited for Coefficient {
     ghost fits = { coefficient_fits };
@@ -71,18 +70,6 @@ fn days_fit(days: u64) -> bool
     matches!(days, 365 | 366)
 }
 
-fn commercial_fits(price: PointPrice) -> bool
-    ensures { result ≡ commercial_fits price }
-{
-    (1..=1_000_000_000).contains(&price.0)
-}
-
-fn count_fits(count: usize) -> bool
-    ensures { result ≡ count_fits count }
-{
-    (1..=8).contains(&count)
-}
-
 // The days, the fixed charges and the number of brackets.
 #[tactic(auto, unfolding(crate::specs::Limits::fixed_tests))]
 fn first_bad_fixed(f: &TariffFigures) -> Option<u64>
@@ -92,8 +79,8 @@ fn first_bad_fixed(f: &TariffFigures) -> Option<u64>
         unless(days_fit(f.days), 1),
         first_bad(2, &f.distribution),
         first_bad(26, &f.metering),
-        unless(commercial_fits(f.commercial), 50),
-        unless(count_fits(f.count), 51),
+        unless(among(1_000_000_000, f.commercial.0), 50),
+        unless(among(8, f.count as u64), 51),
     ])
 }
 

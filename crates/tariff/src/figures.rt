@@ -30,7 +30,7 @@ pub struct TariffFigures {
     pub metering: [PointPrice; 24],
     /// Line 3: one price for all.
     pub commercial: PointPrice,
-    /// The number of brackets; the places past it are not read.
+    /// The number of brackets; the places past it are not read. It stands beside the list, since it is filed too, and may be wrong: figure 51.
     pub count: usize,
     pub brackets: [Bracket; 8],
     /// By area.

@@ -11,7 +11,7 @@ use units::refusal::{Reason, Refusal};
 
 pub mod prices;
 
-#[derive(Clone, Copy)]
+#[derive(Clone, Copy, Debug, PartialEq, Eq)]
 pub struct Tariff {
     pub(crate) figures: TariffFigures,
     ghost lawful: { is_some (first_bad_figure figures) ≡ false },
