@@ -42,7 +42,7 @@ pub(crate) fn put_all(slots: &mut [Option<u64>], line: &Line, span: Span) -> Res
     requires figures { span.first + span.count ≤ MOST_FIGURES }
     ensures { Puts (placed_all slots.old span.slot line.now.figures span.first span.count) result slots.new }
 {
-    // By number: the figures and the slots begin at different places, and a refusal names the figure's place.
+    // By number: `(span.first..).zip(&mut slots[span.slot..span.slot + span.count])` is no plainer.
     for k in 0..span.count {
         put(slots, span.slot + k, line, span.first + k)?;
     }

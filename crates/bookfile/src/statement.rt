@@ -183,7 +183,7 @@ impl Kind {
         ensures { result ≡ (int_le (least self) n && int_le n (most self)) }
     {
         let (least, most) = self.bounds();
-        least <= n && n <= most
+        (least..=most).contains(&n)
     }
 }
 

@@ -2,6 +2,7 @@
 use Rattle.std.specs.Prelude.{ℕ, Bool, not, ◌&&◌, List, length, ℤ, is_some, None, Ok, Option, Result, ◌==◌, nat_le, nat_lt, slice_index_or}
 use Rattle.units.specs.declared.refusal.Reason.TheVariants.{PastTable, PlaceTaken, FigureLimit}
 use Rattle.units.specs.declared.refusal.Refusal.{Refusal}
+use Rattle.units.specs.Refusals.{refused_at}
 use Rattle.limits.specs.First.{among}
 use Rattle.tariff.specs.declared.figures.TariffFigures.{TariffFigures}
 use Rattle.tariff.specs.declared.bill.Bill.{Bill}
@@ -14,7 +15,7 @@ use Rattle.company.specs.declared.figures.TermsFigures.{TermsFigures}
 use Rattle.company.specs.declared.terms.Terms.{Terms}
 use Rattle.company.specs.Terms.{checked}
 use Rattle.limits.specs.Checked.{faultless}
-use Rattle.calls.specs.Steps.{when, found, refused_at, next}
+use Rattle.calls.specs.Steps.{when, found, next}
 
 -- the sixteen companies, each with the terms that it registered
 abbrev pub Companies : Type 0

@@ -14,11 +14,6 @@ abbrev pub found : {A X : Type 0} → Option A → ℕ → (A → Result X Refus
 found None place rest = Err (refusal NothingThere place)
 found (Some a) place rest = rest a
 
--- a refusal that names its reason alone names this place
-abbrev pub refused_at : {X : Type 0} → ℕ → Result X Reason → Result X Refusal
-refused_at place (Ok x) = Ok x
-refused_at place (Err reason) = Err (refusal reason place)
-
 -- what the first part is granted: the rest decides by it
 abbrev pub next : {A X : Type 0} → Result A Refusal → (A → Result X Refusal) → Result X Refusal
 next (Ok a) rest = rest a

@@ -2,14 +2,14 @@
 ghost use Rattle.std.specs.Prelude.{◌≡◌, ◌<◌, length, OnOk};
 ghost use Rattle.calls.specs.Decisions.{enrolled_within, enrolling};
 
-use crate::lent::Lent;
 use crate::places::company_at;
+use crate::records::Records;
 use limits::among;
 use tables::lookup::record_at;
 use tables::rows::PointRow;
 use units::refusal::{Reason, Refusal};
 
-/// The locality's place, the class and the domestic sign with which a point is enrolled.
+/// The locality's place, the class and the domestic sign with which a point is enrolled: plain numbers, since the call refuses those beyond their limits.
 #[derive(Clone, Copy, Debug, PartialEq, Eq)]
 pub struct Enrolment {
     pub locality: u64,
@@ -17,7 +17,7 @@ pub struct Enrolment {
     pub domestic: u64,
 }
 
-impl<'a> Lent<'a> {
+impl<'a> Records<'a> {
     /// The row of a point that is enrolled in a locality, or the first refusal.
     pub fn enrolling(self, point: u64, enrolment: Enrolment) -> Result<PointRow, Refusal>
         ensures within { OnOk result (point < length self.entry.points.now) }

@@ -6,7 +6,7 @@ use crate::places::company_at;
 use company::terms::Terms;
 use tables::filing::check_filing;
 use tables::lookup::record_at;
-use tables::rows::LocalityRow;
+use tables::rows::{LocalityRow, MOST_LOCALITIES};
 use units::refusal::{Reason, Refusal};
 
 /// The row that is filed at a place, or the first refusal.
@@ -19,7 +19,7 @@ pub fn filing(
     ensures within { OnOk result (place < length localities.now) }
     ensures answer { result ≡ filing companies.now localities.now place row }
 {
-    if localities.len() > 256 {
+    if localities.len() > MOST_LOCALITIES {
         return Err(Reason::PastTable.at(0));
     }
     if place >= localities.len() as u64 {

@@ -4,6 +4,6 @@
 pub mod billing;
 pub mod enrolling;
 pub mod filing;
-pub mod lent;
 mod places;
+pub mod records;
 pub mod registering;

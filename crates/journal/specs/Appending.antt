@@ -2,11 +2,12 @@
 use Rattle.std.specs.Prelude.{ℕ, cond, List, [], ◌∷◌, ◌++◌, length, Ok, Err, Result, nat_lt}
 use Rattle.units.specs.declared.refusal.Reason.TheVariants.{JournalFull}
 use Rattle.units.specs.declared.refusal.Refusal.{Refusal}
+use Rattle.units.specs.Refusals.{refusal}
 use Rattle.journal.specs.declared.entry.Entry.{Entry}
 
 -- refused exactly if the list is as long as its room, with its length
 abbrev pub append_answer : (room : ℕ) → List Entry → Result Unit Refusal
-append_answer room es = cond (nat_lt (length es) room) (Ok tt) (Err (record { reason = JournalFull; place = length es }))
+append_answer room es = cond (nat_lt (length es) room) (Ok tt) (Err (refusal JournalFull (length es)))
 
 -- the list with the entry at its end; a full list stays
 abbrev pub appended : (room : ℕ) → List Entry → Entry → List Entry

@@ -2,11 +2,12 @@
 use Rattle.std.specs.Prelude.{ℕ, Some, None, Ok, Err, Option, Result}
 use Rattle.units.specs.declared.refusal.Reason.{Reason}
 use Rattle.units.specs.declared.refusal.Refusal.{Refusal}
+use Rattle.units.specs.Refusals.{refusal}
 
 -- these figures, or the refusal of the bad one that was found
 abbrev pub unless_bad : {X : Type 0} → Reason → X → Option ℕ → Result X Refusal
 unless_bad reason x None = Ok x
-unless_bad reason x (Some n) = Err (record { reason = reason; place = n })
+unless_bad reason x (Some n) = Err (refusal reason n)
 
 -- what was made, by its figures
 abbrev pub made_of : {X Y : Type 0} → (Y → X) → Result Y Refusal → Result X Refusal

@@ -17,7 +17,7 @@ pub trait Limited {
         ensures { result ≡ fits self.now };
 }
 
-/// A figure within its limit.
+/// A figure within its limit. It has no `Copy`, which a generic struct with a ghost field does not derive.
 #[derive(Drop)]
 pub struct Fitting<F: Limited> {
     pub figure: F,
@@ -58,7 +58,7 @@ pub fn unless(fits: bool, number: u64) -> Option<u64>
 pub fn first_of(found: &[Option<u64>]) -> Option<u64>
     ensures { result ≡ first_of found.now }
 {
-    // Not `find_map`: what it promises does not tell a proof that no earlier one was found.
+    // Tried by `find_map`, and by `find` and `flatten`: the proof did not close.
     for number in found {
         if number.is_some() {
             return *number;

@@ -4,7 +4,7 @@ ghost use Rattle.management.specs.Traits.{within_limits};
 
 use limits::among;
 
-/// Points for class, density and award year, each within its limits.
+/// Points for class, density and award year, each within its limits. The rules number the densities, and the nine prices are listed by these numbers.
 #[derive(Clone, Copy, Debug, PartialEq, Eq)]
 pub struct Traits {
     pub points: u64,

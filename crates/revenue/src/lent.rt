@@ -7,7 +7,8 @@ pub mod makes;
 pub mod revenue;
 pub mod sums;
 
-/// The locality table, of at most 256 rows, and the point table, of at most 65,536.
+/// The locality table, of at most 256 rows, and the point table, of at most 65,536. The tariff and the company that are asked for stay parameters:
+/// in one value with the tables, each clause would name all four through it.
 #[derive(Clone, Copy, Debug, PartialEq, Eq)]
 pub struct Tables<'a> {
     pub(crate) localities: &'a [LocalityRow],

@@ -46,6 +46,7 @@ fn fault_of_rows<F: Fn(u8, &AssetRow) -> Option<u64>>(rows: &[AssetRow; 8], faul
     requires tests { (row : ℕ) (a : _) (r : _) → row < 256 → F.post fault row a r → r ≡ row_fault test (5 * row) a.now }
     ensures { result ≡ rows_fault test 5 rows.now }
 {
+    // A loop: tried by `find_map`, and the proof did not close.
     for (i, a) in rows.iter().enumerate() {
         let found = fault(i as u8 + 1, a);
         if found.is_some() {

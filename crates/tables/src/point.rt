@@ -4,8 +4,10 @@ ghost use Rattle.tables.specs.PointRows.{point_stands, PointHeld};
 
 use crate::locality::Locality;
 use crate::rows::{PointRow, Row};
+use limits::among;
 use tariff::supply::{Reading, Supply};
 
+// Beside `Locality`: one generic struct for both, with its ghost field, would derive no `Copy`.
 #[derive(Clone, Copy, Debug, PartialEq, Eq)]
 pub struct Point {
     pub(crate) row: PointRow,
@@ -18,8 +20,7 @@ impl PointRow {
         ensures { result ≡ point_stands self.now }
     {
         self.locality <= 255
-            && 1 <= self.class
-            && self.class <= 3
+            && among(3, self.class)
             && self.domestic <= 1
             && self.volume <= 1_000_000_000
             && self.days <= 366

@@ -1,6 +1,12 @@
 // The plain rows of the two tables that are lent to the book.
 ghost use Rattle.std.specs.Prelude.{◌≡◌, Bool, true, false, Option, MatchOption};
 
+/// The most localities that a book has.
+pub const MOST_LOCALITIES: usize = 256;
+
+/// The most points that a book has.
+pub const MOST_POINTS: usize = 65_536;
+
 /// A row of a lent table. It stands if it keeps its limits; any other row counts as blank.
 pub trait Row: Copy {
     /// What stands in a row.

@@ -18,7 +18,7 @@ impl Limited for Rate {
     ghost fits = { rate_fits };
 
     fn is_within(&self) -> bool {
-        self.0 <= 2_000
+        self.0 <= 2000
     }
 }
 
@@ -54,9 +54,9 @@ fn first_bad_end(first: u64, brackets: &[Bracket]) -> Option<u64>
     match brackets {
         [] => None,
         [last] => unless(last.end == 1_000_000_000, first),
-        [bracket, rest @ ..] => {
-            if bracket.end < rest[0].end {
-                first_bad_end(first + 1, rest)
+        [bracket, next, ..] => {
+            if bracket.end < next.end {
+                first_bad_end(first + 1, &brackets[1..])
             } else {
                 Some(first + 1)
             }

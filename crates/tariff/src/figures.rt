@@ -2,7 +2,7 @@
 use units::amounts::{PointPrice, VolumePrice};
 
 /// An area's coefficient, in millionths.
-#[derive(Clone, Copy, Debug, PartialEq, Eq)]
+#[derive(Clone, Copy, Debug, Default, PartialEq, Eq)]
 pub struct Coefficient(pub u64);
 
 /// The rate of return on capital, in ten-thousandths.
@@ -10,7 +10,7 @@ pub struct Coefficient(pub u64);
 pub struct Rate(pub u64);
 
 /// The useful life of an asset, in years; 0 where it does not depreciate.
-#[derive(Clone, Copy, Debug, PartialEq, Eq)]
+#[derive(Clone, Copy, Debug, Default, PartialEq, Eq)]
 pub struct Life(pub u64);
 
 /// A consumption bracket: its end in Smc, and its price before the area's coefficient.

@@ -3,7 +3,7 @@ use Rattle.std.specs.Prelude.{◌≡◌, ℕ, ◌<◌, ◌≤◌, Bool, cond, �
 use Rattle.units.specs.declared.refusal.Reason.{Reason}
 use Rattle.units.specs.declared.refusal.Reason.TheVariants.{PastTable, NothingThere, PlaceTaken, FigureLimit}
 use Rattle.units.specs.declared.refusal.Refusal.{Refusal}
-use Rattle.units.specs.Refusals.{refusal}
+use Rattle.units.specs.Refusals.{refusal, refused_at}
 use Rattle.tariff.specs.declared.bill.Bill.{Bill}
 use Rattle.tariff.specs.declared.figures.TariffFigures.{TariffFigures}
 use Rattle.tariff.specs.Bills.{bill_at}
@@ -31,8 +31,8 @@ point_after rows place (Err refusal) = rows
 -- a bill of no point is refused: past the table, or where nothing stands
 abbrev pub Absent : List (Option Row) → ℕ → Result Bill Refusal → Type 0
 Absent rows place r =
-    (length rows ≤ place → r ≡ Err (record { reason = PastTable; place = place })) ×
-    (place < length rows → slice_index_or rows place None ≡ None → r ≡ Err (record { reason = NothingThere; place = place }))
+    (length rows ≤ place → r ≡ refused PastTable place) ×
+    (place < length rows → slice_index_or rows place None ≡ None → r ≡ refused NothingThere place)
 
 -- a row lies within the limits of a bill: its area, its class, and its year to date
 abbrev pub within_limits : Row → Bool
@@ -42,11 +42,6 @@ within_limits row = (nat_le 1 row.area && nat_le row.area 8 && nat_le 1 row.clas
 abbrev pub charged : TariffFigures → Row → (dv dd : ℤ) → Result Bill Reason
 charged t row dv dd =
     cond (within_limits row) (bill_at t row.area row.class row.domestic row.volume row.days dv dd) (Err NothingThere)
-
--- a refusal that names its reason alone names this place
-abbrev pub refused_at : {X : Type 0} → ℕ → Result X Reason → Result X Refusal
-refused_at place (Ok x) = Ok x
-refused_at place (Err reason) = refused reason place
 
 -- the bill of what stands at a place, where anything does
 abbrev pub charged_at : TariffFigures → Option Row → (place : ℕ) → (dv dd : ℤ) → Result Bill Refusal

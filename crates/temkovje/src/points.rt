@@ -9,7 +9,7 @@ use tariff::supply::{Change, Reading, Supply};
 use tariff::table::Tariff;
 use units::refusal::{Reason, Refusal};
 
-/// A delivery point, with its volume and days of the year to date.
+/// A delivery point, with its volume and days of the year to date. Plain numbers: one beyond its limits is refused by number, or counts as blank.
 #[derive(Clone, Copy, Debug, PartialEq, Eq)]
 pub struct Row {
     pub area: u64,

@@ -67,10 +67,10 @@ impl fmt::Display for Failure {
             Failure::Unread(e) => write!(f, "{e}"),
             Failure::Tariff { refusal, brackets } => {
                 write!(f, "{refusal}")?;
-                match figure_at(refusal.place, brackets as u64) {
-                    Some(figure) => write!(f, ": {figure}"),
-                    None => Ok(()),
+                if let Some(figure) = figure_at(refusal.place, brackets as u64) {
+                    write!(f, ": {figure}")?;
                 }
+                Ok(())
             }
             Failure::Memory => write!(f, "there is not enough memory"),
         }

@@ -1,5 +1,5 @@
 -- What a refusal is, and what number and which layer each has.
-use Rattle.std.specs.Prelude.{ℕ}
+use Rattle.std.specs.Prelude.{ℕ, Ok, Err, Result}
 use Rattle.units.specs.declared.refusal.Reason.{Reason}
 use Rattle.units.specs.declared.refusal.Reason.TheVariants.{TariffLimit, BookNotOpen, BookInUse, PastTable, NothingThere, PlaceTaken, FigureLimit, FiguresAtOdds, CompanyClosed, CompanyOpen, OrderOut, AllPaid, NotTheOrderOut, VolumeRange, DaysRange, JournalFull, NoExpectedPoints}
 use Rattle.units.specs.declared.refusal.Refusal.{Refusal}
@@ -52,5 +52,11 @@ layer_number Tables = 2
 layer_number Book = 3
 layer_number Journal = 4
 
+-- a refusal by a reason, at a place
 abbrev pub refusal : Reason → ℕ → Refusal
 refusal reason place = record { reason = reason; place = place }
+
+-- a refusal that names its reason alone names this place
+abbrev pub refused_at : {X : Type 0} → ℕ → Result X Reason → Result X Refusal
+refused_at place (Ok x) = Ok x
+refused_at place (Err reason) = Err (refusal reason place)

@@ -27,7 +27,7 @@ impl<'a> Tally<'a> {
 }
 
 /// Compares the lines of a table, but for its comments, and prints how many figures agree.
-pub fn compare_table<F: FnMut(&mut Tally<'_>, &str) -> anyhow::Result<()>>(
+pub(crate) fn compare_table<F: FnMut(&mut Tally<'_>, &str) -> anyhow::Result<()>>(
     rt: &HostRuntime,
     name: &str,
     mut compare_line: F,

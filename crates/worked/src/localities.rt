@@ -1,33 +1,34 @@
 // Costs of localities, against a table of them.
-use crate::compare::{Tally, compare_table};
+use crate::compare::Tally;
 use crate::numbers::Numbers;
-use crate::tariffs::{table_at, tariffs};
+use crate::tariffs::compare_by_tariff;
 use anyhow::anyhow;
-use std::array;
 use tables::locality::Locality;
 use tables::rows::{AssetRow, LocalityRow, Row};
 use tables::service::Service;
 use tariff::table::Tariff;
 
-fn asset_row(numbers: &mut Numbers) -> AssetRow {
-    AssetRow {
-        gross: numbers.take(),
-        net: numbers.take(),
-        works: numbers.take(),
-        contributions: numbers.take(),
-        remaining: numbers.take(),
-    }
+fn asset_row(numbers: &mut Numbers) -> anyhow::Result<AssetRow> {
+    Ok(AssetRow {
+        gross: numbers.take()?,
+        net: numbers.take()?,
+        works: numbers.take()?,
+        contributions: numbers.take()?,
+        remaining: numbers.take()?,
+    })
 }
 
 fn locality(numbers: &mut Numbers) -> anyhow::Result<Locality> {
-    let row = LocalityRow {
-        company: 0,
-        state: numbers.take(),
+    let mut row = LocalityRow {
+        state: numbers.take()?,
         area: 1,
-        expected: numbers.take(),
-        smart: numbers.take(),
-        rows: array::from_fn(|_| asset_row(numbers)),
+        expected: numbers.take()?,
+        smart: numbers.take()?,
+        ..LocalityRow::default()
     };
+    for asset in row.rows.iter_mut() {
+        *asset = asset_row(numbers)?;
+    }
     row.record().ok_or(anyhow!("a locality beyond its limits"))
 }
 
@@ -40,10 +41,9 @@ fn component(locality: &Locality, table: &Tariff, service: Service) -> u64 {
 
 fn compare_line(
     tally: &mut Tally<'_>,
-    tables: &[Tariff],
+    table: &Tariff,
     numbers: &mut Numbers,
 ) -> anyhow::Result<()> {
-    let table = table_at(tables, numbers.take())?;
     let locality = locality(numbers)?;
     for (what, found) in [
         (
@@ -64,18 +64,11 @@ fn compare_line(
         ),
         ("locality", locality.figure(table)),
     ] {
-        tally.compare(what, found, numbers.take())?;
+        tally.compare(what, found, numbers.take()?)?;
     }
-    numbers.finish()
+    Ok(())
 }
 
 pub fn run(rt: &HostRuntime) -> anyhow::Result<()> {
-    let tables = tariffs(rt)?;
-    compare_table(rt, "localities.txt", |tally, line| {
-        compare_line(
-            tally,
-            tables.as_slice(),
-            &mut Numbers::of(rt.alloc(), line)?,
-        )
-    })
+    compare_by_tariff(rt, "localities.txt", compare_line)
 }

@@ -7,37 +7,48 @@ use std::vec::IntoIter;
 #[derive(Drop)]
 pub struct Numbers {
     rest: IntoIter<u64>,
-    short: bool,
 }
 
 impl Numbers {
     pub fn of(heap: Global, line: &str) -> anyhow::Result<Numbers> {
         let mut list = Vec::new(heap);
         for word in line.split_whitespace() {
-            list.push(word.parse::<u64>()?)?;
+            list.push(word.parse::<u64>()?)
+                .map_err(|_| anyhow!("no memory"))?;
         }
         Ok(Numbers {
             rest: list.into_iter(),
-            short: false,
         })
     }
 
-    /// The next number; past the last it is 0.
-    pub fn take(&mut self) -> u64 {
-        match self.rest.next() {
-            Some(number) => number,
-            None => {
-                self.short = true;
-                0
-            }
-        }
+    /// The next number; an error past the last.
+    pub fn take(&mut self) -> anyhow::Result<u64> {
+        self.rest.next().ok_or(wrong_count())
     }
 
-    /// An error unless each number was taken, and no more.
-    pub fn finish(&mut self) -> anyhow::Result<()> {
-        if self.short || self.rest.next().is_some() {
-            return Err(anyhow!("a line of a table has too few numbers or too many"));
+    /// The next numbers, each made into what it is the number of.
+    pub fn list<T: Copy + Default, const N: usize, F: Fn(u64) -> T>(
+        &mut self,
+        make: F,
+    ) -> anyhow::Result<[T; N]>
+        requires { F.IsAlwaysCallable make }
+    {
+        let mut list = [T::default(); N];
+        for item in list.iter_mut() {
+            *item = make(self.take()?);
         }
-        Ok(())
+        Ok(list)
     }
+
+    /// An error unless each number was taken.
+    pub fn finish(&mut self) -> anyhow::Result<()> {
+        match self.rest.next() {
+            Some(_) => Err(wrong_count()),
+            None => Ok(()),
+        }
+    }
+}
+
+fn wrong_count() -> anyhow::Error {
+    anyhow!("a line of a table has too few numbers or too many")
 }

@@ -7,7 +7,6 @@ use management::municipal::Municipal;
 use management::rule::Management;
 use management::traits::Traits;
 use std::alloc::Global;
-use std::array;
 use units::amounts::PointPrice;
 use units::refusal::Refusal;
 
@@ -20,13 +19,13 @@ fn price_by<M: Management + TryFrom<[PointPrice; 9], Error = Refusal> + Drop>(
     prices: [PointPrice; 9],
     traits: Traits,
 ) -> anyhow::Result<u64> {
-    let rule = M::try_from(prices)?;
+    let rule = M::try_from(prices).map_err(|_| anyhow!("a rule is refused"))?;
     Ok(rule.operating_price(traits).0)
 }
 
 fn price_of(kind: &str, numbers: &mut Numbers) -> anyhow::Result<u64> {
-    let prices = array::from_fn(|_| PointPrice(numbers.take()));
-    let traits = traits(numbers.take(), numbers.take(), numbers.take())?;
+    let prices = numbers.list(PointPrice)?;
+    let traits = traits(numbers.take()?, numbers.take()?, numbers.take()?)?;
     match kind {
         "municipal" => price_by::<Municipal>(prices, traits),
         "area-wide" => price_by::<AreaWide>(prices, traits),
@@ -40,7 +39,7 @@ fn compare_line(heap: Global, tally: &mut Tally<'_>, line: &str) -> anyhow::Resu
         .ok_or(anyhow!("a rule without its prices"))?;
     let mut numbers = Numbers::of(heap, rest)?;
     let found = price_of(kind, &mut numbers)?;
-    tally.compare("operating price", found, numbers.take())?;
+    tally.compare("operating price", found, numbers.take()?)?;
     numbers.finish()
 }
 

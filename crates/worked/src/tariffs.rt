@@ -1,4 +1,5 @@
 // Tariff tables from their figures in order.
+use crate::compare::{Tally, compare_table};
 use crate::numbers::Numbers;
 use anyhow::anyhow;
 use std::alloc::Global;
@@ -14,10 +15,29 @@ pub fn tariffs(rt: &HostRuntime) -> anyhow::Result<Vec<Tariff>> {
     let mut tables = Vec::new(heap);
     for line in text.as_str().lines() {
         if !line.starts_with('#') {
-            tables.push(tariff(heap, line)?)?;
+            tables
+                .push(tariff(heap, line)?)
+                .map_err(|_| anyhow!("no memory"))?;
         }
     }
     Ok(tables)
+}
+
+/// Compares the lines of a table of figures, each by the tariff table whose number it begins with.
+pub(crate) fn compare_by_tariff<F: Fn(&mut Tally<'_>, &Tariff, &mut Numbers) -> anyhow::Result<()>>(
+    rt: &HostRuntime,
+    name: &str,
+    compare_line: F,
+) -> anyhow::Result<()>
+    requires { F.IsAlwaysCallable compare_line }
+{
+    let tables = tariffs(rt)?;
+    compare_table(rt, name, |tally, line| {
+        let mut numbers = Numbers::of(rt.alloc(), line)?;
+        let table = table_at(tables.as_slice(), numbers.take()?)?;
+        compare_line(tally, table, &mut numbers)?;
+        numbers.finish()
+    })
 }
 
 /// The table with a number, from 0.
@@ -29,48 +49,48 @@ pub fn table_at(tables: &[Tariff], number: u64) -> anyhow::Result<&Tariff> {
 
 fn tariff(heap: Global, line: &str) -> anyhow::Result<Tariff> {
     let mut numbers = Numbers::of(heap, line)?;
-    let figures = tariff_figures(&mut numbers);
+    let figures = tariff_figures(&mut numbers)?;
     numbers.finish()?;
-    Ok(Tariff::try_from(figures)?)
+    Tariff::try_from(figures).map_err(|_| anyhow!("a tariff table is refused"))
 }
 
-fn brackets(numbers: &mut Numbers, count: usize) -> [Bracket; 8] {
+fn brackets(numbers: &mut Numbers, count: usize) -> anyhow::Result<[Bracket; 8]> {
     let mut brackets = [Bracket {
         end: 0,
         reference: VolumePrice(0),
     }; 8];
     for bracket in brackets.iter_mut().take(count) {
-        bracket.end = numbers.take();
+        bracket.end = numbers.take()?;
     }
     for bracket in brackets.iter_mut().take(count) {
-        bracket.reference = VolumePrice(numbers.take());
+        bracket.reference = VolumePrice(numbers.take()?);
     }
-    brackets
+    Ok(brackets)
 }
 
-fn tariff_figures(numbers: &mut Numbers) -> TariffFigures {
-    let days = numbers.take();
-    let distribution = array::from_fn(|_| PointPrice(numbers.take()));
-    let metering = array::from_fn(|_| PointPrice(numbers.take()));
-    let commercial = PointPrice(numbers.take());
-    let count = numbers.take() as usize;
-    TariffFigures {
+fn tariff_figures(numbers: &mut Numbers) -> anyhow::Result<TariffFigures> {
+    let days = numbers.take()?;
+    let distribution = numbers.list(PointPrice)?;
+    let metering = numbers.list(PointPrice)?;
+    let commercial = PointPrice(numbers.take()?);
+    let count = numbers.take()? as usize;
+    Ok(TariffFigures {
         days,
         distribution,
         metering,
         commercial,
         count,
-        brackets: brackets(numbers, count),
-        coefficients: array::from_fn(|_| Coefficient(numbers.take())),
-        gs: VolumePrice(numbers.take()),
-        ug1: VolumePrice(numbers.take()),
-        rate: Rate(numbers.take()),
-        lives: array::from_fn(|_| Life(numbers.take())),
-        cou: PointPrice(numbers.take()),
-        coa: PointPrice(numbers.take()),
-        telcon: PointPrice(numbers.take()),
-        avv: PointPrice(numbers.take()),
-        ins: PointPrice(numbers.take()),
-        rac: PointPrice(numbers.take()),
-    }
+        brackets: brackets(numbers, count)?,
+        coefficients: numbers.list(Coefficient)?,
+        gs: VolumePrice(numbers.take()?),
+        ug1: VolumePrice(numbers.take()?),
+        rate: Rate(numbers.take()?),
+        lives: numbers.list(Life)?,
+        cou: PointPrice(numbers.take()?),
+        coa: PointPrice(numbers.take()?),
+        telcon: PointPrice(numbers.take()?),
+        avv: PointPrice(numbers.take()?),
+        ins: PointPrice(numbers.take()?),
+        rac: PointPrice(numbers.take()?),
+    })
 }

@@ -8,7 +8,7 @@ ghost use Rattle.year.specs.Tables.{written, billed_row};
 
 use calls::enrolling::Enrolment;
 use calls::filing::filing;
-use calls::lent::Lent;
+use calls::records::Records;
 use calls::registering::registering;
 use company::figures::TermsFigures;
 use company::terms::Terms;
@@ -58,12 +58,12 @@ pub fn enrol(
     ensures answer { result ≡ decision.enrolling companies.now localities.now points.old point enrolment.locality enrolment.class enrolment.domestic }
     ensures after { points.new ≡ written (λ p. p) points.old point result }
 {
-    let lent = Lent {
+    let records = Records {
         companies,
         localities,
         points: &*points,
     };
-    let row = lent.enrolling(point, enrolment)?;
+    let row = records.enrolling(point, enrolment)?;
     points[point as usize] = row;
     Ok(row)
 }
@@ -80,12 +80,12 @@ pub fn bill(
     ensures answer { result ≡ decision.billing tariff.now.figures companies.now localities.now points.old point change.volume change.days }
     ensures after { points.new ≡ written (billed_row (slice_index_or points.old point no_point)) points.old point result }
 {
-    let lent = Lent {
+    let records = Records {
         companies,
         localities,
         points: &*points,
     };
-    let bill = lent.billing(tariff, point, change)?;
+    let bill = records.billing(tariff, point, change)?;
     let row = points[point as usize];
     points[point as usize] = PointRow {
         volume: bill.volume,

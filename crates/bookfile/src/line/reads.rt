@@ -30,6 +30,7 @@ impl Line {
 fn before_comment(line: &str) -> &str
     ensures { Before line.now result.now }
 {
+    // A `match`: tried by `map_or`, and the proof did not close.
     match line.split_once('#') {
         Some((text, _)) => text,
         None => line,

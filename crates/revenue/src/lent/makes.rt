@@ -2,7 +2,7 @@
 ghost use Rattle.std.specs.Prelude.{◌≡◌, take};
 
 use crate::lent::Tables;
-use tables::rows::{LocalityRow, PointRow};
+use tables::rows::{LocalityRow, MOST_LOCALITIES, MOST_POINTS, PointRow};
 
 impl<'a> Tables<'a> {
     /// The first 256 localities and the first 65,536 points: a book has no more, and its calls refuse a longer table.
@@ -11,8 +11,8 @@ impl<'a> Tables<'a> {
         ensures points { result.points.now ≡ take 65536 points.now }
     {
         Tables {
-            localities: &localities[..localities.len().min(256)],
-            points: &points[..points.len().min(65536)],
+            localities: &localities[..localities.len().min(MOST_LOCALITIES)],
+            points: &points[..points.len().min(MOST_POINTS)],
         }
     }
 }

@@ -12,7 +12,7 @@ use crate::state::State;
 use tariff::table::Tariff;
 use units::refusal::{Reason, Refusal};
 
-// A price for each of some points, in cents.
+// A price for each of some points, in cents. For thousandths of points `revenue` has one, with other bounds.
 fn for_points(price: u64, points: u64) -> u64
     requires cheap { price ≤ 2000000000 }
     requires few { points ≤ 10000000 }

@@ -3,21 +3,21 @@ ghost use Rattle.std.specs.Prelude.{◌≡◌};
 ghost use Rattle.calls.specs.Decisions.{tables_fit};
 
 use company::terms::Terms;
-use tables::rows::{LocalityRow, PointRow};
+use tables::rows::{LocalityRow, MOST_LOCALITIES, MOST_POINTS, PointRow};
 
 /// The sixteen companies, and the two tables that are lent to a book.
 #[derive(Clone, Copy, Debug, PartialEq, Eq)]
-pub struct Lent<'a> {
+pub struct Records<'a> {
     pub companies: &'a [Option<Terms>; 16],
     pub localities: &'a [LocalityRow],
     pub points: &'a [PointRow],
 }
 
-impl<'a> Lent<'a> {
+impl<'a> Records<'a> {
     /// Whether neither table is longer than it may be.
     pub(crate) fn fits(self) -> bool
         ensures { result ≡ tables_fit self.entry.localities.now self.entry.points.now }
     {
-        self.localities.len() <= 256 && self.points.len() <= 65536
+        self.localities.len() <= MOST_LOCALITIES && self.points.len() <= MOST_POINTS
     }
 }
