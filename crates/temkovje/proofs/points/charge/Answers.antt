@@ -1,6 +1,4 @@
 use Rattle.std.proofs.Common.{◌≡◌, true, is_some, sym, ap, ◌∙◌}
-use mir.Syntax.{w64}
-use Rattle.std.proofs.lemmas.Int.{to_z-of_z}
 use Rattle.std.proofs.lemmas.Option.{MatchOption-at_some}
 use Rattle.temkovje.specs.Points.{within_limits}
 use Rattle.temkovje.proofs.Charging.{charged_as}

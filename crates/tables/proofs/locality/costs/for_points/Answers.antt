@@ -1,4 +1,4 @@
-use Rattle.std.proofs.Common.{◌*◌, mul-le-mul, arith}
+use Rattle.std.proofs.Common.{arith}
 use Rattle.rounding.proofs.HalfLaw.{rounded_product_at_most}
 use Rattle.tables.proofs.locality.costs.for_points.Goals as goal
 
