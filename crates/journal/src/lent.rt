@@ -7,7 +7,7 @@ use crate::kept::Journal;
 use units::refusal::{Reason, Refusal};
 
 /// A journal whose entries lie in memory of the caller.
-#[derive(Drop)]
+#[derive(Debug, Drop)]
 pub struct LentJournal<'a> {
     places: &'a mut [Entry],
     // A count beside the list, since the list is memory that the caller lends.

@@ -8,7 +8,7 @@ use arrayvec::ArrayVec;
 use units::refusal::{Reason, Refusal};
 
 /// A journal whose 256 places lie in the value itself.
-#[derive(Drop)]
+#[derive(Debug, Drop)]
 pub struct OwnJournal {
     entries: ArrayVec<Entry, 256>,
     ghost within: { length entries.items ≤ 256 },

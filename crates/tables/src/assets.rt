@@ -9,7 +9,7 @@ use crate::rows::AssetRow;
 use tariff::figures::{Life, Rate};
 
 /// Asset rows of a locality, of which each keeps its limits.
-#[derive(Clone, Copy)]
+#[derive(Clone, Copy, Debug, PartialEq, Eq)]
 pub(crate) struct Assets<'a> {
     pub(crate) rows: &'a [AssetRow],
     ghost held: { AllHeld rows.now },

@@ -80,6 +80,7 @@ impl Point {
         ensures domestic { result.domestic ≡ (self.now.row.domestic == 1) }
     {
         let row = self.row();
+        // `domestic` is 0 or 1, since rows hold plain numbers.
         Supply::new(locality.row().area, row.class, row.domestic == 1).unwrap()
     }
 

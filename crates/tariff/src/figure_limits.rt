@@ -85,7 +85,7 @@ fn first_bad_fixed(f: &TariffFigures) -> Option<u64>
 }
 
 /// The figures of a table whose brackets have room: those past the number of brackets have numbers.
-#[derive(Clone, Copy)]
+#[derive(Clone, Copy, Debug, PartialEq, Eq)]
 pub(crate) struct Counted<'a> {
     pub(crate) figures: &'a TariffFigures,
     ghost few: { figures.now.count ≤ 8 },

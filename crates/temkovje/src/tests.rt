@@ -64,6 +64,7 @@ bill of point 9: -100 Smc, -365 days; year to date 120 Smc, 0 days
 fn files_are_answered(rt: HostRuntime) -> Result<(), Fail> {
     let heap = rt.alloc();
     for (text, printed) in PRINTED {
+        // A `match`, since the other arm allocates.
         let said = match run_book(heap, text) {
             Ok(out) => out,
             Err(failure) => failure.to_string(heap)?,

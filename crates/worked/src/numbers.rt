@@ -27,12 +27,13 @@ impl Numbers {
     }
 
     /// The next numbers, each made into what it is the number of.
-    pub fn list<T: Copy + Default, const N: usize, F: Fn(u64) -> T>(
+    pub(crate) fn list<T: Copy + Default, const N: usize, F: Fn(u64) -> T>(
         &mut self,
         make: F,
     ) -> anyhow::Result<[T; N]>
         requires { F.IsAlwaysCallable make }
     {
+        // A loop, since `array::from_fn` hands on no error.
         let mut list = [T::default(); N];
         for item in list.iter_mut() {
             *item = make(self.take()?);

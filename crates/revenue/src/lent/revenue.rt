@@ -20,14 +20,9 @@ fn of_locality(tariff: &Tariff, company: u64, row: &LocalityRow) -> u64
     ensures value { result ≡ (if owns company row.now then locality_figure tariff.now.figures row.now else 0) }
     ensures small { result ≤ 5000000000000 }
 {
-    let Some(locality) = row.record() else {
-        return 0;
-    };
-    if locality.row().company == company {
-        locality.figure(tariff)
-    } else {
-        0
-    }
+    row.record()
+        .filter(|locality| locality.row().company == company)
+        .map_or(0, |locality| locality.figure(tariff))
 }
 
 impl<'a> Tables<'a> {
