@@ -7,7 +7,7 @@ use crate::statement::Statement;
 
 #[derive(Clone, Copy, Debug, PartialEq, Eq)]
 pub enum Call {
-    /// A delivery point is put at a place of the point table.
+    /// A delivery point is put at a place of the point table. Class and domestic are the file's numbers: the call refuses what is beyond them.
     Point {
         place: u64,
         area: u64,

@@ -91,11 +91,15 @@ cost_tests f =
 unfoldable pub first_bad_figure : TariffFigures → Option ℕ
 first_bad_figure f = first_of (first_of (fixed_tests f) ∷ first_of (variable_tests f) ∷ first_of (cost_tests f) ∷ [])
 
+-- the prices of a list keep the limit of a point price
+abbrev pub PointPriced : List PointPrice → Type 0
+PointPriced prices = (i : ℕ) → (slice_index_or prices i (record { 0 = 0 })).0 ≤ 1000000000
+
 -- The same limits, one by one. A place past the end of a list reads as 0.
 pub record Within (f : TariffFigures) : Type 0 where
   pub year : (f.days ≡ 365) ⊎ (f.days ≡ 366)
-  pub distribution : (i : ℕ) → (slice_index_or f.distribution i (record { 0 = 0 })).0 ≤ 1000000000
-  pub metering : (i : ℕ) → (slice_index_or f.metering i (record { 0 = 0 })).0 ≤ 1000000000
+  pub distribution : PointPriced f.distribution
+  pub metering : PointPriced f.metering
   pub commercial : (1 ≤ f.commercial.0) × (f.commercial.0 ≤ 1000000000)
   pub count : (1 ≤ f.count) × (f.count ≤ 8)
   pub rises : (i : ℕ) → suc i < length (brackets_of f) → end_at f i < end_at f (suc i)

@@ -45,7 +45,7 @@ pub fn run(rt: &HostRuntime) -> anyhow::Result<()> {
 /// In a year of 365 days a bill may bring 365 days, and not 366.
 pub fn boundaries(rt: &HostRuntime) -> anyhow::Result<()> {
     let tables = tariffs(rt)?;
-    let table = tables.get(0).ok_or(anyhow!("no tariff table"))?;
+    let table = tables.get(0).ok_or_else(|| anyhow!("no tariff table"))?;
     let supply = supply(&mut Numbers::of(rt.alloc(), "1 1 0")?)?;
     let start = reading(&mut Numbers::of(rt.alloc(), "0 0")?)?;
     for days in [365, 366] {

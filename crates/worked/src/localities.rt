@@ -3,6 +3,7 @@ use crate::compare::Tally;
 use crate::numbers::Numbers;
 use crate::tariffs::compare_by_tariff;
 use anyhow::anyhow;
+use std::array;
 use tables::locality::Locality;
 use tables::rows::{AssetRow, LocalityRow, Row};
 use tables::service::Service;
@@ -19,17 +20,16 @@ fn asset_row(numbers: &mut Numbers) -> anyhow::Result<AssetRow> {
 }
 
 fn locality(numbers: &mut Numbers) -> anyhow::Result<Locality> {
-    let mut row = LocalityRow {
+    let row = LocalityRow {
+        company: 0,
         state: numbers.take()?,
         area: 1,
         expected: numbers.take()?,
         smart: numbers.take()?,
-        ..LocalityRow::default()
+        rows: array::try_from_fn(|_| asset_row(numbers))?,
     };
-    for asset in row.rows.iter_mut() {
-        *asset = asset_row(numbers)?;
-    }
-    row.record().ok_or(anyhow!("a locality beyond its limits"))
+    row.record()
+        .ok_or_else(|| anyhow!("a locality beyond its limits"))
 }
 
 // The unit component; where it is refused, the number of the refusal in place of an answer.

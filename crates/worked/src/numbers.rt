@@ -23,7 +23,7 @@ impl Numbers {
 
     /// The next number; an error past the last.
     pub fn take(&mut self) -> anyhow::Result<u64> {
-        self.rest.next().ok_or(wrong_count())
+        self.rest.next().ok_or_else(wrong_count)
     }
 
     /// The next numbers, each made into what it is the number of.
@@ -33,7 +33,7 @@ impl Numbers {
     ) -> anyhow::Result<[T; N]>
         requires { F.IsAlwaysCallable make }
     {
-        // A loop, since `array::from_fn` hands on no error.
+        // A loop: tried by `array::try_from_fn`, which asks that N of its slots fit in memory, and no bound says that of N.
         let mut list = [T::default(); N];
         for item in list.iter_mut() {
             *item = make(self.take()?);

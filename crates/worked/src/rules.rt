@@ -10,25 +10,26 @@ use std::alloc::Global;
 use units::amounts::PointPrice;
 use units::refusal::Refusal;
 
-fn traits(points: u64, density: u64, year: u64) -> anyhow::Result<Traits> {
-    Traits::new(points, density, year).ok_or(anyhow!("traits beyond their limits"))
-}
-
-// The price by the rule of nine prices.
+// The price by the rule of nine prices, of a company with these traits.
 fn price_by<M: Management + TryFrom<[PointPrice; 9], Error = Refusal> + Drop>(
     prices: [PointPrice; 9],
-    traits: Traits,
+    points: u64,
+    density: u64,
+    year: u64,
 ) -> anyhow::Result<u64> {
     let rule = M::try_from(prices).map_err(|_| anyhow!("a rule is refused"))?;
+    let traits = Traits::new(points, density, year).ok_or_else(|| anyhow!(
+        "traits beyond their limits"
+    ))?;
     Ok(rule.operating_price(traits).0)
 }
 
 fn price_of(kind: &str, numbers: &mut Numbers) -> anyhow::Result<u64> {
     let prices = numbers.list(PointPrice)?;
-    let traits = traits(numbers.take()?, numbers.take()?, numbers.take()?)?;
+    let (points, density, year) = (numbers.take()?, numbers.take()?, numbers.take()?);
     match kind {
-        "municipal" => price_by::<Municipal>(prices, traits),
-        "area-wide" => price_by::<AreaWide>(prices, traits),
+        "municipal" => price_by::<Municipal>(prices, points, density, year),
+        "area-wide" => price_by::<AreaWide>(prices, points, density, year),
         _ => Err(anyhow!("neither a municipal nor an area-wide rule")),
     }
 }
@@ -36,7 +37,7 @@ fn price_of(kind: &str, numbers: &mut Numbers) -> anyhow::Result<u64> {
 fn compare_line(heap: Global, tally: &mut Tally<'_>, line: &str) -> anyhow::Result<()> {
     let (kind, rest) = line
         .split_once(' ')
-        .ok_or(anyhow!("a rule without its prices"))?;
+        .ok_or_else(|| anyhow!("a rule without its prices"))?;
     let mut numbers = Numbers::of(heap, rest)?;
     let found = price_of(kind, &mut numbers)?;
     tally.compare("operating price", found, numbers.take()?)?;
@@ -53,13 +54,12 @@ pub fn boundaries(rt: &HostRuntime) -> anyhow::Result<()> {
     // prices that tell which of the nine they are
     let prices = [100, 200, 300, 400, 500, 600, 700, 800, 900].map(PointPrice);
     for points in [50_000, 50_001, 300_000, 300_001] {
-        let traits = traits(points, 2, 1)?;
-        let price = price_by::<Municipal>(prices, traits)?;
-        let wide = price_by::<AreaWide>(prices, traits)?;
+        let price = price_by::<Municipal>(prices, points, 2, 1)?;
+        let wide = price_by::<AreaWide>(prices, points, 2, 1)?;
         println!(rt; "{points} points: municipal {price}, area-wide {wide}")?;
     }
     for year in [4, 5, 6] {
-        let price = price_by::<AreaWide>(prices, traits(50_000, 2, year)?)?;
+        let price = price_by::<AreaWide>(prices, 50_000, 2, year)?;
         println!(rt; "award year {year}: area-wide {price}")?;
     }
     Ok(())

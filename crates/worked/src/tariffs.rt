@@ -44,7 +44,7 @@ pub(crate) fn compare_by_tariff<F: Fn(&mut Tally<'_>, &Tariff, &mut Numbers) -> 
 pub fn table_at(tables: &[Tariff], number: u64) -> anyhow::Result<&Tariff> {
     tables
         .get(number as usize)
-        .ok_or(anyhow!("no such tariff table"))
+        .ok_or_else(|| anyhow!("no such tariff table"))
 }
 
 fn tariff(heap: Global, line: &str) -> anyhow::Result<Tariff> {
