@@ -4,7 +4,7 @@ mod puts;
 
 /// The figures that are given so far, each in its slot: the single ones, then distribution and metering by area
 /// and class, the coefficients, the lives, and the brackets, each its end and its price. One array holds them all, so
-/// that one loop puts the figures of every statement.
+/// that one loop puts the figures of every statement; the number of brackets says where the next one goes.
 #[derive(Clone, Copy, Debug, PartialEq, Eq)]
 pub struct Table {
     slots: [Option<u64>; SLOTS],

@@ -131,6 +131,8 @@ impl fmt::Display for Reason {
     }
 }
 
+impl Error for Reason {}
+
 impl Layer {
     pub fn number(self) -> u8
         ensures { result ≡ layer_number self }

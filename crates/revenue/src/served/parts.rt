@@ -8,8 +8,7 @@ use crate::parts::Revenue;
 use crate::served::Served;
 use tariff::table::Tariff;
 
-// A price for thousandths of points, in cents. A locality's `for_points` has whole points and other bounds: one function for both would take all
-// three as parameters.
+// A price for thousandths of points, in cents. `tables` has one for whole points: a shared one would be public, and could not require its bounds.
 fn for_points(price: u64, points: u64) -> u64
     requires price { price ≤ 2000000000 }
     requires points { points ≤ 262930432 }

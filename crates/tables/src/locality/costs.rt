@@ -1,4 +1,4 @@
-// What a locality costs, by a tariff table.
+// What a locality costs, by a tariff table. The bounds of the figures stay clauses, since they are answered as plain numbers.
 ghost use Rattle.std.specs.Prelude.{◌≡◌, ◌*◌, ◌≤◌, length, pos};
 ghost use Rattle.rounding.specs.Frac.{over};
 ghost use Rattle.rounding.specs.Rounding.{rounded};
@@ -12,7 +12,7 @@ use crate::state::State;
 use tariff::table::Tariff;
 use units::refusal::{Reason, Refusal};
 
-// A price for each of some points, in cents. For thousandths of points `revenue` has one, with other bounds.
+// A price for each of some points, in cents. `revenue` has one for thousandths of points: a shared one would be public, and could not require its bounds.
 fn for_points(price: u64, points: u64) -> u64
     requires cheap { price ≤ 2000000000 }
     requires few { points ≤ 10000000 }
