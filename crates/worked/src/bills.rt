@@ -6,6 +6,7 @@ use anyhow::anyhow;
 use tariff::supply::{Change, Reading, Supply};
 use tariff::table::Tariff;
 
+// The table has 1 for a domestic customer.
 fn supply(numbers: &mut Numbers) -> anyhow::Result<Supply> {
     Supply::new(numbers.take()?, numbers.take()?, numbers.take()? == 1).ok_or(anyhow!(
         "an area or class beyond its limits"

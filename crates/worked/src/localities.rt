@@ -32,7 +32,7 @@ fn locality(numbers: &mut Numbers) -> anyhow::Result<Locality> {
         .ok_or_else(|| anyhow!("a locality beyond its limits"))
 }
 
-// The unit component; where it is refused, the number of the refusal in place of an answer.
+// The unit component; where it is refused, the number of the refusal, as the table has it.
 fn component(locality: &Locality, table: &Tariff, service: Service) -> u64 {
     locality
         .unit_component(table, service, 0)

@@ -59,6 +59,7 @@ fn brackets(numbers: &mut Numbers, count: usize) -> anyhow::Result<[Bracket; 8]>
         end: 0,
         reference: VolumePrice(0),
     }; 8];
+    // The ends come first, and then the prices: two passes.
     for bracket in brackets.iter_mut().take(count) {
         bracket.end = numbers.take()?;
     }
