@@ -1,20 +1,22 @@
 -- Reading line by line: what the lines so far say.
-use Rattle.std.proofs.Common.{◌≡◌, ℕ, ◌+◌, ◌<◌, ◌≤◌, List, [], ◌∷◌, ◌++◌, length, IfSome, Some, None, vec_items, Option, sym, refl, ap, ◌∙◌, subst, inl, inr, append_assoc, append-nil, arith}
+use Rattle.std.proofs.Common.{◌≡◌, ℕ, ◌+◌, ◌<◌, ◌≤◌, List, [], ◌∷◌, ◌++◌, length, Some, None, vec_items, Option, sym, refl, ap, ◌∙◌, subst, inl, inr, append_assoc, append-nil, arith, length-append}
 use Rattle.std.proofs.ByRecursion.{All-append}
 use Rattle.std.specs.Str.Lines.{IsFirstLine as Row}
 use Rattle.std.specs.List.{AllByRecursion}
+use Rattle.tables.specs.declared.rows.LocalityRow.{LocalityRow}
 use Rattle.bookfile.specs.declared.calls.Call.{Call}
 use Rattle.bookfile.specs.declared.file.BookFile.{BookFile}
 use Rattle.bookfile.specs.declared.file.NumberedCall.{NumberedCall}
+use Rattle.bookfile.specs.declared.line.Line.{Line}
 use Rattle.bookfile.specs.declared.table.Table.{Table}
-use Rattle.bookfile.specs.Calls.{Lawful}
-use Rattle.bookfile.specs.Files.{line_count, LineOf, Numbered, after_line, after_lines, call_before, line_call, calls_of, Sound, Step, Rows, RowsSay, Says}
-use Rattle.bookfile.specs.Filed.{filed}
+use Rattle.bookfile.specs.Calls.{call_of}
+use Rattle.bookfile.specs.Files.{line_count, LineOf, Numbered, after_line, after_lines, line_filings, filings_of, called_by, line_calls, calls_from, calls_of, Sound, Step, Rows, RowsSay, Says}
+use Rattle.bookfile.specs.Filed.{filed, rule_of}
 use Rattle.bookfile.specs.Slots.{and_then}
 use Rattle.bookfile.specs.Tables.{empty_table}
 use Rattle.bookfile.proofs.LineCounts.{line_count_more}
 
--- one line more, at the end
+-- the table after one line more
 after_lines_push : (t : Table) (xs : List Numbered) (x : Numbered) → after_lines t (xs ++ x ∷ []) ≡ and_then (after_lines t xs) (λ u. after_line u x.line)
 after_lines_push t [] x = last (after_line t x.line)
   where
@@ -27,37 +29,42 @@ after_lines_push t (y ∷ ys) x = next (after_line t y.line) (λ u. after_lines_
     next None ih = refl
     next (Some u) ih = ih u
 
-call_before_append : (n : ℕ) (o : Option Call) (cs ds : List NumberedCall) → call_before n o (cs ++ ds) ≡ call_before n o cs ++ ds
-call_before_append n None cs ds = refl
-call_before_append n (Some call) cs ds = refl
+-- the filings and the calls with one line more
+filings_push : (xs : List Numbered) (x : Numbered) → filings_of (xs ++ x ∷ []) ≡ filings_of xs ++ line_filings x.line
+filings_push [] x = append-nil (line_filings x.line)
+filings_push (y ∷ ys) x = ap (λ fs. line_filings y.line ++ fs) (filings_push ys x) ∙ sym (append_assoc (line_filings y.line) (filings_of ys) _)
 
-calls_push : (xs : List Numbered) (x : Numbered) → calls_of (xs ++ x ∷ []) ≡ calls_of xs ++ call_before x.number (line_call x.line) []
-calls_push [] x = refl
-calls_push (y ∷ ys) x =
-    ap (call_before y.number (line_call y.line)) (calls_push ys x) ∙ call_before_append y.number (line_call y.line) (calls_of ys) _
+calls_push : (n k : ℕ) (xs : List Numbered) (x : Numbered) → n + length (filings_of xs) ≡ k → calls_from n (xs ++ x ∷ []) ≡ calls_from n xs ++ line_calls k x
+calls_push n k [] x e = let same : n ≡ k = omega arith in append-nil (line_calls n x) ∙ ap (λ m. line_calls m x) same
+calls_push n k (y ∷ ys) x e =
+    let after = n + length (line_filings y.line) in
+    let rest : after + length (filings_of ys) ≡ k = omega (arith, length-append (line_filings y.line) (filings_of ys)) in
+    ap (λ cs. line_calls n y ++ cs) (calls_push after k ys x rest) ∙ sym (append_assoc (line_calls n y) (calls_from after ys) _)
 
 -- so many rows of the text are read, and the rest is left: whatever that says, the whole says after what was said
-pub record SoFar (text : List ℕ) (read : ℕ) (rest : List ℕ) (t : Table) (cs : List NumberedCall) : Type 0 where
+pub record SoFar (text : List ℕ) (read : ℕ) (rest : List ℕ) (t : Table) (fs : List LocalityRow) (cs : List NumberedCall) : Type 0 where
   pub lines : List Numbered
   pub carries : (rows : List (List ℕ)) (more : List Numbered) → Rows rest rows → RowsSay (read + 1) rows more → (all : List (List ℕ)) × Rows text all × RowsSay 1 all (lines ++ more)
   pub puts : after_lines empty_table lines ≡ Some t
+  pub filings : fs ≡ filings_of lines
   pub calls : cs ≡ calls_of lines
   pub sound : AllByRecursion (Sound text) cs
   pub left : read + line_count rest ≡ line_count text
 
-pub at_start : (text rest : List ℕ) (t : Table) (cs : List NumberedCall) → rest ≡ text → t ≡ empty_table → cs ≡ [] → SoFar text 0 rest t cs
-at_start text rest t cs whole empty none =
+pub at_start : (text rest : List ℕ) (t : Table) (fs : List LocalityRow) (cs : List NumberedCall) → rest ≡ text → t ≡ empty_table → fs ≡ [] → cs ≡ [] → SoFar text 0 rest t fs cs
+at_start text rest t fs cs whole empty no_filing no_call =
     record {
       lines = [];
       carries = rw whole (λ rows more cut say. (rows, cut, say));
       puts = ap (λ u. Some u) (sym empty);
-      calls = none;
-      sound = subst (AllByRecursion (Sound text)) (sym none) tt;
+      filings = no_filing;
+      calls = no_call;
+      sound = subst (AllByRecursion (Sound text)) (sym no_call) tt;
       left = let e : line_count rest ≡ line_count text = ap line_count whole in omega arith;
     }
 
-pub at_end : (text rest : List ℕ) (read : ℕ) (book : BookFile) (t : Table) → SoFar text read rest t (vec_items book.calls) → length rest ≡ 0 → book.tariff ≡ filed t → Says text book
-at_end text rest read book t old none tariff =
+pub at_end : (text rest : List ℕ) (read : ℕ) (book : BookFile) (t : Table) → SoFar text read rest t (vec_items book.filings) (vec_items book.calls) → length rest ≡ 0 → book.tariff ≡ filed t → book.rule ≡ rule_of t → Says text book
+at_end text rest read book t old none tariff rule =
     let all = old.carries [] [] none refl in
     record {
       rows = all.0;
@@ -67,42 +74,46 @@ at_end text rest read book t old none tariff =
       table = t;
       puts = old.puts;
       tariff = tariff;
+      rule = rule;
+      filings = old.filings;
       calls = old.calls;
       sound = old.sound;
     }
 
--- no call comes
-pub no_call : (n : ℕ) (o : Option Call) (cs : List NumberedCall) → ((call : Call) → o ≡ Some call → ⊥) → cs ≡ cs ++ call_before n o []
-no_call n None cs h = sym (append-nil cs)
-no_call n (Some call) cs h = absurd (h call refl)
-
-module _ {text : List ℕ} {read : ℕ} {rest : List ℕ} {t : Table} {cs : List NumberedCall} (old : SoFar text read rest t cs) (row next : List ℕ) (item : (0 < length rest) × (length row + length next ≤ length rest) × Row rest row next) where
+module _ {text : List ℕ} {read : ℕ} {rest : List ℕ} {t : Table} {fs : List LocalityRow} {cs : List NumberedCall} (old : SoFar text read rest t fs cs) (row next : List ℕ) (item : (0 < length rest) × (length row + length next ≤ length rest) × Row rest row next) (u : Table) where
   here : LineOf text (read + 1)
   here = (omega arith, omega (arith, old.left, line_count_more rest row next item))
 
-  one_sound : (o : Option Call) → IfSome o Lawful → AllByRecursion (Sound text) (call_before (read + 1) o [])
-  one_sound None lawful = tt
-  one_sound (Some call) lawful = ((here, lawful), tt)
+  one_sound : (o : Option Call) → AllByRecursion (Sound text) (called_by (read + 1) o)
+  one_sound None = tt
+  one_sound (Some call) = (here, tt)
 
-  pub one_more : (o : Option Call) (u : Table) (ds : List NumberedCall) → Step row t u o → IfSome o Lawful → ds ≡ cs ++ call_before (read + 1) o [] → SoFar text (read + 1) next u ds
-  one_more o u ds (inl (silent, stays, none)) lawful e =
-      let same : ds ≡ cs = e ∙ ap (λ p. cs ++ call_before (read + 1) p []) none ∙ append-nil cs in
+  -- a row that says nothing
+  pub silent_more : (o : Option Line) → ((line : Line) → o ≡ Some line → ⊥) → Step row t u o → SoFar text (read + 1) next u fs cs
+  silent_more (Some line) none step = absurd (none line refl)
+  silent_more None none (silent, stays) =
       record {
         lines = old.lines;
         carries = λ rows more cut say. old.carries (row ∷ rows) more (next, item.0, item.2, cut) (inl (silent, say));
         puts = old.puts ∙ ap (λ v. Some v) (sym stays);
-        calls = same ∙ old.calls;
-        sound = subst (AllByRecursion (Sound text)) (sym same) old.sound;
+        filings = old.filings;
+        calls = old.calls;
+        sound = old.sound;
         left = omega (arith, old.left, line_count_more rest row next item);
       }
-  one_more o u ds (inr (line, says, put, call)) lawful e =
+
+  -- a row that says a line
+  pub said_more : (o : Option Line) (line : Line) (gs : List LocalityRow) (ds : List NumberedCall) → o ≡ Some line → Step row t u o → gs ≡ fs ++ line_filings line → ds ≡ cs ++ line_calls (length fs) (record { number = read + 1; line = line }) → SoFar text (read + 1) next u gs ds
+  said_more o line gs ds is step filing call =
       let x : Numbered = record { number = read + 1; line = line } in
+      let said = subst (Step row t u) is step in
       record {
         lines = old.lines ++ x ∷ [];
         carries = λ rows more cut say.
-            rw append_assoc (old.carries (row ∷ rows) (x ∷ more) (next, item.0, item.2, cut) (inr (line, more, says, refl, say)));
-        puts = after_lines_push empty_table old.lines x ∙ ap (λ p. and_then p (λ v. after_line v line)) old.puts ∙ put;
-        calls = e ∙ ap (λ l. l ++ call_before (read + 1) o []) old.calls ∙ ap (λ p. calls_of old.lines ++ call_before (read + 1) p []) call ∙ sym (calls_push old.lines x);
-        sound = subst (AllByRecursion (Sound text)) (sym e) (All-append (Sound text) cs _ old.sound (one_sound o lawful));
+            rw append_assoc (old.carries (row ∷ rows) (x ∷ more) (next, item.0, item.2, cut) (inr (line, more, said.0, refl, say)));
+        puts = after_lines_push empty_table old.lines x ∙ ap (λ p. and_then p (λ v. after_line v line)) old.puts ∙ said.1;
+        filings = filing ∙ ap (λ l. l ++ line_filings line) old.filings ∙ sym (filings_push old.lines x);
+        calls = call ∙ ap (λ l. l ++ line_calls (length fs) x) old.calls ∙ sym (calls_push 0 (length fs) old.lines x (omega (arith, ap length old.filings)));
+        sound = subst (AllByRecursion (Sound text)) (sym call) (All-append (Sound text) cs _ old.sound (one_sound (call_of (length fs) line.statement line.figures)));
         left = omega (arith, old.left, line_count_more rest row next item);
       }

@@ -1,28 +1,42 @@
 -- What call each statement makes, by its figures.
-use Rattle.std.specs.Prelude.{ℕ, ◌≤◌, List, ℤ, Some, None, Option, slice_index_or}
+use Rattle.std.specs.Prelude.{ℕ, List, ℤ, Some, None, Option}
+use Rattle.company.specs.declared.figures.TermsFigures.{TermsFigures}
+use Rattle.tariff.specs.declared.supply.Change.{Change}
+use Rattle.calls.specs.declared.enrolling.Enrolment.{Enrolment}
 use Rattle.bookfile.specs.declared.calls.Call.{Call}
-use Rattle.bookfile.specs.declared.calls.Call.TheVariants.{Point, Bill}
+use Rattle.bookfile.specs.declared.calls.Call.TheVariants as call
 use Rattle.bookfile.specs.declared.statement.Statement.{Statement}
-use Rattle.bookfile.specs.declared.statement.Statement.TheVariants.{Tariff, Distribution, Metering, Bracket, Coefficient, Life, Point as PointStatement, Bill as BillStatement}
-use Rattle.bookfile.specs.Numbers.{whole_of, change_of}
+use Rattle.bookfile.specs.declared.statement.Statement.TheVariants.{Tariff, Distribution, Metering, Bracket, Coefficient, Life, Management, Register, File, Enrol, Bill}
+use Rattle.bookfile.specs.Numbers.{whole_at, change_at}
 
-abbrev pub whole_at : List (Option ℤ) → ℕ → ℕ
-whole_at zs i = whole_of (slice_index_or zs i None)
+abbrev pub terms_of : List (Option ℤ) → TermsFigures
+terms_of zs =
+    record {
+      advance = change_at zs 1;
+      instalments = whole_at zs 2;
+      verification = whole_at zs 3;
+      central = whole_at zs 4;
+      points = whole_at zs 5;
+      density = whole_at zs 6;
+      year = whole_at zs 7;
+    }
 
-abbrev pub change_at : List (Option ℤ) → ℕ → ℤ
-change_at zs i = change_of (slice_index_or zs i None)
+abbrev pub enrolment_of : List (Option ℤ) → Enrolment
+enrolment_of zs = record { locality = whole_at zs 1; class = whole_at zs 2; domestic = whole_at zs 3 }
 
-abbrev pub call_of : Statement → List (Option ℤ) → Option Call
-call_of Tariff zs = None
-call_of Distribution zs = None
-call_of Metering zs = None
-call_of Bracket zs = None
-call_of Coefficient zs = None
-call_of Life zs = None
-call_of PointStatement zs = Some (Point (whole_at zs 0) (whole_at zs 1) (whole_at zs 2) (whole_at zs 3))
-call_of BillStatement zs = Some (Bill (whole_at zs 0) (change_at zs 1) (change_at zs 2))
+abbrev pub bill_change : List (Option ℤ) → Change
+bill_change zs = record { volume = change_at zs 1; days = change_at zs 2 }
 
--- a place is one of the point table, and an area one of 1 to 8
-abbrev pub Lawful : Call → Type 0
-Lawful (Point place area class domestic) = (place ≤ 65535) × (1 ≤ area) × (area ≤ 8)
-Lawful (Bill point volume days) = point ≤ 65535
+-- the call of a statement that comes after so many filings
+abbrev pub call_of : ℕ → Statement → List (Option ℤ) → Option Call
+call_of filings Tariff zs = None
+call_of filings Distribution zs = None
+call_of filings Metering zs = None
+call_of filings Bracket zs = None
+call_of filings Coefficient zs = None
+call_of filings Life zs = None
+call_of filings Management zs = None
+call_of filings Register zs = Some (call.Register (whole_at zs 0) (terms_of zs))
+call_of filings File zs = Some (call.File (whole_at zs 0) filings)
+call_of filings Enrol zs = Some (call.Enrol (whole_at zs 0) (enrolment_of zs))
+call_of filings Bill zs = Some (call.Bill (whole_at zs 0) (bill_change zs))

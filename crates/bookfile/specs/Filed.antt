@@ -1,5 +1,5 @@
--- What tariff table the given figures make: a figure that is not given is 0.
-use Rattle.std.specs.Prelude.{ℕ, ◌+◌, ◌*◌, map, None, slice_index_or}
+-- What tariff table and what management rule the given figures make: a figure that is not given is 0.
+use Rattle.std.specs.Prelude.{ℕ, ◌+◌, ◌*◌, map, None, ◌==◌, slice_index_or}
 use Rattle.std.specs.Option.{unwrap_or}
 use Rattle.std.specs.List.{range_with_len}
 use Rattle.units.specs.declared.amounts.PointPrice.{PointPrice}
@@ -8,6 +8,7 @@ use Rattle.tariff.specs.declared.figures.Bracket.{Bracket}
 use Rattle.tariff.specs.declared.figures.Coefficient.{Coefficient}
 use Rattle.tariff.specs.declared.figures.Life.{Life}
 use Rattle.tariff.specs.declared.figures.TariffFigures.{TariffFigures}
+use Rattle.bookfile.specs.declared.rule.RuleFigures.{RuleFigures}
 use Rattle.bookfile.specs.declared.table.Table.{Table}
 
 -- the figure in a slot
@@ -51,3 +52,7 @@ filed t =
       ins = record { 0 = figure t 9 };
       rac = record { 0 = figure t 10 };
     }
+
+-- the management rule lies in the slots from 91 on: whether it is area-wide, then its prices
+abbrev pub rule_of : Table → RuleFigures
+rule_of t = record { wide = (figure t 91 == 1); prices = map (price t 92) (range_with_len 0 9) }

@@ -1,7 +1,8 @@
 -- What reading a whole book file promises.
-use Rattle.std.specs.Prelude.{◌≡◌, ℕ, ◌+◌, ◌<◌, ◌≤◌, max, cond, ◌⊎◌, List, [], ◌∷◌, length, Some, None, vec_items, Option, ◌==◌}
+use Rattle.std.specs.Prelude.{◌≡◌, ℕ, ◌+◌, ◌<◌, ◌≤◌, max, cond, ◌⊎◌, List, [], ◌∷◌, ◌++◌, length, Some, None, vec_items, Option, ◌==◌}
 use Rattle.std.specs.Str.Lines.{IsFirstLine as Row}
 use Rattle.std.specs.List.{AllByRecursion}
+use Rattle.tables.specs.declared.rows.LocalityRow.{LocalityRow}
 use Rattle.bookfile.specs.declared.calls.Call.{Call}
 use Rattle.bookfile.specs.declared.file.BookFile.{BookFile}
 use Rattle.bookfile.specs.declared.file.NumberedCall.{NumberedCall}
@@ -9,8 +10,9 @@ use Rattle.bookfile.specs.declared.file.Unread.{Unread}
 use Rattle.bookfile.specs.declared.file.Unread.TheVariants.{Malformed, Memory}
 use Rattle.bookfile.specs.declared.line.Line.{Line}
 use Rattle.bookfile.specs.declared.table.Table.{Table}
-use Rattle.bookfile.specs.Calls.{call_of, Lawful}
-use Rattle.bookfile.specs.Filed.{filed}
+use Rattle.bookfile.specs.Calls.{call_of}
+use Rattle.bookfile.specs.Filed.{filed, rule_of}
+use Rattle.bookfile.specs.Filings.{filing_of}
 use Rattle.bookfile.specs.Grammar.{Silent, Speaks}
 use Rattle.bookfile.specs.Slots.{and_then}
 use Rattle.bookfile.specs.Tables.{empty_table, table_after}
@@ -37,22 +39,38 @@ abbrev pub after_lines : Table → List Numbered → Option Table
 after_lines t [] = Some t
 after_lines t (x ∷ xs) = and_then (after_line t x.line) (λ u. after_lines u xs)
 
--- the call of a line, if it makes one, before others
-abbrev pub call_before : ℕ → Option Call → List NumberedCall → List NumberedCall
-call_before number None calls = calls
-call_before number (Some call) calls = record { line = number; call = call } ∷ calls
+-- the row that a line files, if it files one
+abbrev pub filed_by : Option LocalityRow → List LocalityRow
+filed_by None = []
+filed_by (Some row) = row ∷ []
 
-abbrev pub line_call : Line → Option Call
-line_call line = call_of line.statement line.figures
+abbrev pub line_filings : Line → List LocalityRow
+line_filings line = filed_by (filing_of line.statement line.figures)
 
--- the calls of lines, in their order
+-- the rows that lines file, in their order
+abbrev pub filings_of : List Numbered → List LocalityRow
+filings_of [] = []
+filings_of (x ∷ xs) = line_filings x.line ++ filings_of xs
+
+-- the call of a line, if it makes one
+abbrev pub called_by : ℕ → Option Call → List NumberedCall
+called_by number None = []
+called_by number (Some call) = record { line = number; call = call } ∷ []
+
+abbrev pub line_calls : ℕ → Numbered → List NumberedCall
+line_calls filings x = called_by x.number (call_of filings x.line.statement x.line.figures)
+
+-- the calls of lines after so many filings, in their order
+abbrev pub calls_from : ℕ → List Numbered → List NumberedCall
+calls_from filings [] = []
+calls_from filings (x ∷ xs) = line_calls filings x ++ calls_from (filings + length (line_filings x.line)) xs
+
 abbrev pub calls_of : List Numbered → List NumberedCall
-calls_of [] = []
-calls_of (x ∷ xs) = call_before x.number (line_call x.line) (calls_of xs)
+calls_of = calls_from 0
 
--- a call names a line of the text, and its figures lie where a call's must
+-- a call names a line of the text
 abbrev pub Sound : List ℕ → NumberedCall → Type 0
-Sound text n = LineOf text n.line × Lawful n.call
+Sound text n = LineOf text n.line
 
 -- rows are the lines of a text
 abbrev pub Rows : List ℕ → List (List ℕ) → Type 0
@@ -70,7 +88,8 @@ RowsSay n (row ∷ rows) said =
     (Silent row × RowsSay (n + 1) rows said) ⊎
     ((line : Line) × (more : List Numbered) × RowSays row line × (said ≡ record { number = n; line = line } ∷ more) × RowsSay (n + 1) rows more)
 
--- a book file says what its text does: the figures of its lines make the tariff table, and their calls follow each other
+-- a book file says what its text does: the figures of its lines make the tariff table and the management rule, and
+-- their filings and their calls follow each other
 pub record Says (text : List ℕ) (book : BookFile) : Type 0 where
   pub rows : List (List ℕ)
   pub cut : Rows text rows
@@ -79,6 +98,8 @@ pub record Says (text : List ℕ) (book : BookFile) : Type 0 where
   pub table : Table
   pub puts : after_lines empty_table lines ≡ Some table
   pub tariff : book.tariff ≡ filed table
+  pub rule : book.rule ≡ rule_of table
+  pub filings : vec_items book.filings ≡ filings_of lines
   pub calls : vec_items book.calls ≡ calls_of lines
   pub sound : AllByRecursion (Sound text) (vec_items book.calls)
 
@@ -87,7 +108,7 @@ abbrev pub Placed : List ℕ → Unread → Type 0
 Placed text (Malformed line what) = LineOf text line
 Placed text Memory = Unit {0}
 
--- what a row does to the table, and the call that it makes: nothing, or what its statement says
-abbrev pub Step : List ℕ → Table → Table → Option Call → Type 0
-Step row t u o =
-    (Silent row × (u ≡ t) × (o ≡ None)) ⊎ ((line : Line) × RowSays row line × (after_line t line ≡ Some u) × (o ≡ line_call line))
+-- a row leaves a table as it is and says nothing, or says a line that makes another table of it
+abbrev pub Step : List ℕ → Table → Table → Option Line → Type 0
+Step row t u None = Silent row × (u ≡ t)
+Step row t u (Some line) = RowSays row line × (after_line t line ≡ Some u)

@@ -1,13 +1,14 @@
 -- What a line of a book file says.
-use Rattle.std.specs.Prelude.{◌≡◌, ℕ, ◌<◌, ◌⊎◌, List, [], ◌∷◌, ◌++◌, length, replicate, ℤ, Some, None, Ok, Err, codes, Option, Result, FitsSigned, ◌≢◌, slice_index, slice_index_or, slice_set}
+use Rattle.std.specs.Prelude.{◌≡◌, ℕ, ◌+◌, ◌<◌, ◌⊎◌, List, [], ◌∷◌, ◌++◌, map, length, replicate, ℤ, Some, None, Ok, Err, codes, Option, Result, FitsSigned, ◌≢◌, slice_index, slice_index_or, slice_set}
 use Rattle.std.specs.Int.{w128}
+use Rattle.std.specs.List.{range_with_len, flat_map}
 use Rattle.std.specs.Str.Parse.{IsNumeral, without_leading_sign, signed_digits_value}
 use Rattle.std.specs.Char.{is_whitespace, is_not_whitespace}
 use Rattle.std.specs.Str.{NoCharPasses, EmptyOrStartsWithPassing}
 use Rattle.bookfile.specs.declared.malformed.Malformed.{Malformed}
 use Rattle.bookfile.specs.declared.malformed.Malformed.TheVariants.{Keyword}
 use Rattle.bookfile.specs.declared.statement.Statement.{Statement}
-use Rattle.bookfile.specs.declared.statement.Statement.TheVariants.{Tariff, Distribution, Metering, Bracket, Coefficient, Life, Point, Bill}
+use Rattle.bookfile.specs.declared.statement.Statement.TheVariants.{Tariff, Distribution, Metering, Bracket, Coefficient, Life, Management, Register, File, Enrol, Bill}
 
 abbrev pub keyword_of : Statement → List ℕ
 keyword_of Tariff = codes "tariff"
@@ -16,13 +17,21 @@ keyword_of Metering = codes "metering"
 keyword_of Bracket = codes "bracket"
 keyword_of Coefficient = codes "coefficient"
 keyword_of Life = codes "life"
-keyword_of Point = codes "point"
+keyword_of Management = codes "management"
+keyword_of Register = codes "register"
+keyword_of File = codes "file"
+keyword_of Enrol = codes "enrol"
 keyword_of Bill = codes "bill"
 
 -- a word is read as the statement that has it as its keyword, and no other word is read
 abbrev pub ReadsKeyword : List ℕ → Result Statement Malformed → Type 0
 ReadsKeyword word (Ok s) = word ≡ keyword_of s
 ReadsKeyword word (Err e) = (e ≡ Keyword) × ((s : Statement) → word ≢ keyword_of s)
+
+-- the names of the figures of an asset row: each ends with the row's digit
+abbrev pub asset_names : ℕ → List (List ℕ)
+asset_names row =
+    map (λ name. name ++ (48 + row) ∷ []) (codes "gross" ∷ codes "net" ∷ codes "works" ∷ codes "contributions" ∷ codes "remaining" ∷ [])
 
 -- the names of a statement's figures
 abbrev pub names_of : Statement → List (List ℕ)
@@ -32,7 +41,10 @@ names_of Metering = codes "area" ∷ codes "class1" ∷ codes "class2" ∷ codes
 names_of Bracket = codes "end" ∷ codes "price" ∷ []
 names_of Coefficient = codes "area" ∷ codes "value" ∷ []
 names_of Life = codes "row" ∷ codes "years" ∷ []
-names_of Point = codes "place" ∷ codes "area" ∷ codes "class" ∷ codes "domestic" ∷ []
+names_of Management = codes "areawide" ∷ codes "small1" ∷ codes "small2" ∷ codes "small3" ∷ codes "medium1" ∷ codes "medium2" ∷ codes "medium3" ∷ codes "large1" ∷ codes "large2" ∷ codes "large3" ∷ []
+names_of Register = codes "company" ∷ codes "advance" ∷ codes "instalments" ∷ codes "verification" ∷ codes "central" ∷ codes "points" ∷ codes "density" ∷ codes "award" ∷ []
+names_of File = codes "locality" ∷ codes "company" ∷ codes "state" ∷ codes "area" ∷ codes "expected" ∷ codes "smart" ∷ flat_map asset_names (range_with_len 1 8)
+names_of Enrol = codes "point" ∷ codes "locality" ∷ codes "class" ∷ codes "domestic" ∷ []
 names_of Bill = codes "point" ∷ codes "volume" ∷ codes "days" ∷ []
 
 -- a text writes a whole number in plain digits: without a plus, with a minus if it is negative, in 128 bits
@@ -80,4 +92,4 @@ Silent line = (text : List ℕ) × Before line text × Words text []
 -- a line says a statement with its figures: a keyword, then words that give the figures
 abbrev pub Speaks : List ℕ → Statement → List (Option ℤ) → Type 0
 Speaks line s figures =
-    (text : List ℕ) × (ws : List (List ℕ)) × Before line text × Words text (keyword_of s ∷ ws) × Filled s ws (replicate 11 None) figures
+    (text : List ℕ) × (ws : List (List ℕ)) × Before line text × Words text (keyword_of s ∷ ws) × Filled s ws (replicate 46 None) figures

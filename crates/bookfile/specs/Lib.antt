@@ -1,6 +1,7 @@
 pub mod Grammar
 pub mod Syntax
 pub mod Numbers
+pub mod Filings
 pub mod Calls
 pub mod Slots
 pub mod Tables

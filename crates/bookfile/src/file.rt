@@ -1,16 +1,18 @@
-// A book file as a whole: its tariff table and its calls, or its first malformed line.
-ghost use Rattle.std.specs.Prelude.{◌≡◌, IfSome, IfOk, MatchResult};
+// A book file as a whole: its tariff table, its management rule and its calls, or its first malformed line.
+ghost use Rattle.std.specs.Prelude.{◌≡◌, ◌++◌, length, IfOk, IfErr, MatchResult, OnOk};
 ghost use Rattle.bookfile.specs.declared.file.Unread.TheVariants.{Memory};
-ghost use Rattle.bookfile.specs.Calls.{Lawful};
-ghost use Rattle.bookfile.specs.Files.{Says, Placed, Step};
+ghost use Rattle.bookfile.specs.Files.{Says, Placed, Step, line_filings, line_calls};
 
 use crate::calls::{Call, call_of};
+use crate::filing::filing_of;
 use crate::line::Line;
 use crate::malformed::Malformed;
+use crate::rule::RuleFigures;
 use crate::table::Table;
 use std::alloc::{AllocError, AllocFailed, Global};
 use std::error::Error;
 use std::fmt;
+use tables::rows::LocalityRow;
 use tariff::figures::TariffFigures;
 
 /// A call, and the number of its line, from 1.
@@ -20,10 +22,13 @@ pub struct NumberedCall {
     pub call: Call,
 }
 
-/// What a book file says: the tariff table as it is filed, and the calls in their order.
+/// What a book file says: the tariff table and the management rule as they are filed, the rows of the filings and the
+/// calls in their order.
 #[derive(Debug, Drop)]
 pub struct BookFile {
     pub tariff: TariffFigures,
+    pub rule: RuleFigures,
+    pub filings: Vec<LocalityRow>,
     pub calls: Vec<NumberedCall>,
 }
 
@@ -66,26 +71,53 @@ pub fn read(heap: Global, text: &str) -> Result<BookFile, Unread>
     ensures { MatchResult result (Says text.now) (Placed text.now) }
 {
     let mut table = Table::new();
+    let mut filings = Vec::new(heap);
     let mut calls = Vec::new(heap);
     for (i, row) in text.lines().enumerate() {
         let line = i + 1;
-        let call = read_line(&mut table, row).map_err(|what| Unread::Malformed { line, what })?;
-        if let Some(call) = call {
-            calls.push(NumberedCall { line, call })?;
+        let said = read_line(&mut table, row).map_err(|what| Unread::Malformed { line, what })?;
+        if let Some(said) = said {
+            list_line(&said, line, &mut filings, &mut calls)?;
         }
     }
     let tariff = table.filed();
-    Ok(BookFile { tariff, calls })
+    let rule = table.rule();
+    Ok(BookFile {
+        tariff,
+        rule,
+        filings,
+        calls,
+    })
 }
 
-// Reads a line: what it says of the tariff table goes into the table, and its call is answered.
-fn read_line(table: &mut Table, row: &str) -> Result<Option<Call>, Malformed>
-    ensures lawful { IfOk result (λ o. IfSome o Lawful) }
-    ensures step { IfOk result (λ o. Step row.now table.old table.new o) }
+// Reads a line: what it says of the tariff table and of the management rule goes into the table.
+fn read_line(table: &mut Table, row: &str) -> Result<Option<Line>, Malformed>
+    ensures { IfOk result (Step row.now table.old table.new) }
 {
     let Some(line) = Line::read(row)? else {
         return Ok(None);
     };
     table.put(&line)?;
-    Ok(call_of(&line))
+    Ok(Some(line))
+}
+
+// Adds the row that a line files and the call that it makes to the lists.
+fn list_line(
+    said: &Line,
+    line: usize,
+    filings: &mut Vec<LocalityRow>,
+    calls: &mut Vec<NumberedCall>,
+) -> Result<(), Unread>
+    ensures filings { OnOk result (filings.new.items ≡ filings.old.items ++ line_filings said.now) }
+    ensures calls { OnOk result (calls.new.items ≡ calls.old.items ++ line_calls (length filings.old.items) (record { number = line; line = said.now })) }
+    ensures memory { IfErr result (λ e. e ≡ Memory) }
+{
+    let call = call_of(said, filings.len());
+    if let Some(row) = filing_of(said) {
+        filings.push(row)?;
+    }
+    if let Some(call) = call {
+        calls.push(NumberedCall { line, call })?;
+    }
+    Ok(())
 }

@@ -3,9 +3,11 @@
 
 pub mod calls;
 pub mod file;
+mod filing;
 mod line;
 pub mod malformed;
 pub mod naming;
+pub mod rule;
 mod slots;
 pub mod statement;
 mod table;

@@ -16,7 +16,10 @@ pub enum Statement {
     Bracket,
     Coefficient,
     Life,
-    Point,
+    Management,
+    Register,
+    File,
+    Enrol,
     Bill,
 }
 
@@ -27,10 +30,10 @@ pub enum Kind {
     Whole,
     /// A whole number of 64 bits with its sign.
     Change,
-    /// A place of the point table.
-    Place,
     /// An area or an asset row.
     OneOfEight,
+    /// A yes or a no.
+    ZeroOrOne,
 }
 
 /// A figure of a statement, by its place among the statement's names.
@@ -41,9 +44,9 @@ pub struct Field {
 }
 
 /// The most figures that a statement has.
-pub(crate) const MOST_FIGURES: usize = 11;
+pub(crate) const MOST_FIGURES: usize = 46;
 
-static TARIFF: [&str; MOST_FIGURES] = [
+static TARIFF: [&str; 11] = [
     "days",
     "commercial",
     "gs",
@@ -65,7 +68,72 @@ static COEFFICIENT: [&str; 2] = ["area", "value"];
 
 static LIFE: [&str; 2] = ["row", "years"];
 
-static POINT: [&str; 4] = ["place", "area", "class", "domestic"];
+static MANAGEMENT: [&str; 10] = [
+    "areawide", "small1", "small2", "small3", "medium1", "medium2", "medium3", "large1", "large2",
+    "large3",
+];
+
+static REGISTER: [&str; 8] = [
+    "company",
+    "advance",
+    "instalments",
+    "verification",
+    "central",
+    "points",
+    "density",
+    "award",
+];
+
+static FILE: [&str; MOST_FIGURES] = [
+    "locality",
+    "company",
+    "state",
+    "area",
+    "expected",
+    "smart",
+    "gross1",
+    "net1",
+    "works1",
+    "contributions1",
+    "remaining1",
+    "gross2",
+    "net2",
+    "works2",
+    "contributions2",
+    "remaining2",
+    "gross3",
+    "net3",
+    "works3",
+    "contributions3",
+    "remaining3",
+    "gross4",
+    "net4",
+    "works4",
+    "contributions4",
+    "remaining4",
+    "gross5",
+    "net5",
+    "works5",
+    "contributions5",
+    "remaining5",
+    "gross6",
+    "net6",
+    "works6",
+    "contributions6",
+    "remaining6",
+    "gross7",
+    "net7",
+    "works7",
+    "contributions7",
+    "remaining7",
+    "gross8",
+    "net8",
+    "works8",
+    "contributions8",
+    "remaining8",
+];
+
+static ENROL: [&str; 4] = ["point", "locality", "class", "domestic"];
 
 static BILL: [&str; 3] = ["point", "volume", "days"];
 
@@ -82,7 +150,10 @@ impl FromStr for Statement {
             "bracket" => Ok(Statement::Bracket),
             "coefficient" => Ok(Statement::Coefficient),
             "life" => Ok(Statement::Life),
-            "point" => Ok(Statement::Point),
+            "management" => Ok(Statement::Management),
+            "register" => Ok(Statement::Register),
+            "file" => Ok(Statement::File),
+            "enrol" => Ok(Statement::Enrol),
             "bill" => Ok(Statement::Bill),
             _ => Err(Malformed::Keyword),
         }
@@ -102,7 +173,10 @@ impl Statement {
             Statement::Bracket => &BRACKET,
             Statement::Coefficient => &COEFFICIENT,
             Statement::Life => &LIFE,
-            Statement::Point => &POINT,
+            Statement::Management => &MANAGEMENT,
+            Statement::Register => &REGISTER,
+            Statement::File => &FILE,
+            Statement::Enrol => &ENROL,
             Statement::Bill => &BILL,
         }
     }
@@ -119,7 +193,13 @@ impl Statement {
             Statement::Bracket => "bracket end=120 price=0",
             Statement::Coefficient => "coefficient area=1 value=1000000",
             Statement::Life => "life row=3 years=20",
-            Statement::Point => "point place=0 area=1 class=1 domestic=0",
+            Statement::Management =>
+                "management areawide=0 small1=31000000 small2=27000000 small3=24000000 medium1=26000000 medium2=23000000 medium3=21000000 large1=22000000 large2=20000000 large3=18000000",
+            Statement::Register =>
+                "register company=0 advance=100000 instalments=3 verification=0 central=1000 points=100 density=1 award=1",
+            Statement::File =>
+                "file locality=0 company=0 state=1 area=1 expected=100 smart=40 gross3=1000000 net3=600000",
+            Statement::Enrol => "enrol point=0 locality=0 class=1 domestic=0",
             Statement::Bill => "bill point=0 volume=500 days=73",
         }
     }
@@ -131,23 +211,25 @@ impl Field {
         ensures { result ≡ kind_of self.statement self.place }
     {
         match (self.statement, self.place) {
-            (Statement::Point | Statement::Bill, 0) => Kind::Place,
-            (Statement::Point, 1) => Kind::OneOfEight,
-            (Statement::Bill, _) => Kind::Change,
-            (Statement::Tariff | Statement::Bracket | Statement::Point, _) => Kind::Whole,
-            (_, 0) => Kind::OneOfEight,
+            (Statement::Management, 0) => Kind::ZeroOrOne,
+            (Statement::Register, 1) => Kind::Change,
+            (Statement::Bill, place) if place != 0 => Kind::Change,
+            (Statement::Distribution | Statement::Metering, 0) => Kind::OneOfEight,
+            (Statement::Coefficient | Statement::Life, 0) => Kind::OneOfEight,
             _ => Kind::Whole,
         }
     }
 
-    /// Whether the figure has to be given: all but those of a tariff statement do.
+    /// Whether the figure has to be given: all but those of the tariff, of the management rule and of asset rows do.
     pub(crate) fn is_needed(self) -> bool
         ensures { result ≡ needed self.statement self.place }
     {
         match self.statement {
-            Statement::Tariff => false,
-            Statement::Distribution | Statement::Metering | Statement::Point => self.place < 4,
+            Statement::Tariff | Statement::Management => false,
+            Statement::Distribution | Statement::Metering | Statement::Enrol => self.place < 4,
             Statement::Bracket | Statement::Coefficient | Statement::Life => self.place < 2,
+            Statement::Register => self.place < 8,
+            Statement::File => self.place < 6,
             Statement::Bill => self.place < 3,
         }
     }
@@ -173,8 +255,8 @@ impl Kind {
         match self {
             Kind::Whole => (0, u64::MAX as i128),
             Kind::Change => (i64::MIN as i128, i64::MAX as i128),
-            Kind::Place => (0, 65535),
             Kind::OneOfEight => (1, 8),
+            Kind::ZeroOrOne => (0, 1),
         }
     }
 

@@ -1,9 +1,9 @@
-// The tariff table of a book file, as its statements give it.
+// The tariff table and the management rule of a book file, as its statements give them.
 mod filed;
 mod puts;
 
 /// The figures that are given so far, each in its slot: the single ones, then distribution and metering by area
-/// and class, the coefficients, the lives, and the brackets, each its end and its price. One array holds them all, so
+/// and class, the coefficients, the lives, the brackets, each its end and its price, and the management rule. One array holds them all, so
 /// that one loop puts the figures of every statement; the number of brackets says where the next one goes.
 #[derive(Clone, Copy, Debug, PartialEq, Eq)]
 pub struct Table {
@@ -21,4 +21,6 @@ const LIVES: usize = 67;
 
 const BRACKETS: usize = 75;
 
-const SLOTS: usize = 91;
+const MANAGEMENT: usize = 91;
+
+const SLOTS: usize = 101;

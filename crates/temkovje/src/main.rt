@@ -1,16 +1,49 @@
-// The program: reads a book file, runs its calls and prints what each of them answers.
+// The program: reads book files, runs their calls, and prints what each of them answers and what the year then comes to.
 #![tactic(auto)]
 
-mod points;
-mod report;
+mod failure;
 mod run;
+mod tables;
 
-use run::{Failure, run_book};
+use failure::Failure;
+use run::run_book;
 use std::process::ExitCode;
 use std::{env, fs, io};
 
 fn main(rt: HostRuntime) -> io::Result<ExitCode> {
-    match answers(&rt) {
+    let args = env::args(&rt)?;
+    let files = args.len().saturating_sub(1);
+    if files == 0 {
+        return run_input(&rt);
+    }
+    let mut code = ExitCode::SUCCESS;
+    for path in args.skip(1) {
+        match answers_of(&rt, path.as_str()) {
+            Ok(out) if files > 1 => println!(rt; "{path}\n{out}")?,
+            Ok(out) => rt.print(out)?,
+            Err(failure) => {
+                eprintln!(rt; "{path}: {failure}")?;
+                code = ExitCode::FAILURE;
+            }
+        }
+    }
+    Ok(code)
+}
+
+// What the calls of the book file at a path answer, in print.
+fn answers_of(rt: &HostRuntime, path: &str) -> Result<String, Failure> {
+    let text = fs::read_to_string(rt, path)?;
+    run_book(rt.alloc(), text.as_str())
+}
+
+// Likewise of the book file on the standard input.
+fn answers_of_input(rt: &HostRuntime) -> Result<String, Failure> {
+    let text = io::read_to_string(rt.alloc(), rt.stdin())?;
+    run_book(rt.alloc(), text.as_str())
+}
+
+fn run_input(rt: &HostRuntime) -> io::Result<ExitCode> {
+    match answers_of_input(rt) {
         Ok(out) => {
             rt.print(out)?;
             Ok(ExitCode::SUCCESS)
@@ -19,20 +52,6 @@ fn main(rt: HostRuntime) -> io::Result<ExitCode> {
             eprintln!(rt; "{failure}")?;
             Ok(ExitCode::FAILURE)
         }
-    }
-}
-
-// What the calls of the book file answer, in print.
-fn answers(rt: &HostRuntime) -> Result<String, Failure> {
-    let text = read_input(rt)?;
-    run_book(rt.alloc(), text.as_str())
-}
-
-// The file that the first argument names, or else the standard input.
-fn read_input(rt: &HostRuntime) -> io::Result<String> {
-    match env::args(rt)?.nth(1) {
-        Some(path) => fs::read_to_string(rt, path.as_str()),
-        None => io::read_to_string(rt.alloc(), rt.stdin()),
     }
 }
 

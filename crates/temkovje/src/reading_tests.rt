@@ -1,14 +1,14 @@
 // What the reader says of example files.
 use bookfile::calls::Call;
-use bookfile::file::{NumberedCall, read};
+use bookfile::file::{BookFile, NumberedCall, read};
 use std::alloc::Global;
 use std::test::Fail;
 
 // A malformed text, and what is said of it.
-static MALFORMED: [(&str, &str); 18] = [
+static MALFORMED: [(&str, &str); 24] = [
     (
         "\n\nbil point=0 volume=500 days=73",
-        "line 3: expected tariff, distribution, metering, bracket, coefficient, life, point or bill as the first word",
+        "line 3: expected tariff, distribution, metering, bracket, coefficient, life, management, register, file, enrol or bill as the first word",
     ),
     (
         "tariff days=365\nbill point=0 500 days=73 # a word without its name",
@@ -59,15 +59,35 @@ static MALFORMED: [(&str, &str); 18] = [
         "line 1: expected a plain whole number from 0 to 18446744073709551615 for rate",
     ),
     (
-        "point place=65536 area=1 class=1 domestic=0",
-        "line 1: expected a plain whole number from 0 to 65535 for place",
+        "enrol point=18446744073709551616 locality=0 class=1 domestic=0",
+        "line 1: expected a plain whole number from 0 to 18446744073709551615 for point",
     ),
     (
-        "point place=0 area=9 class=1 domestic=0",
-        "line 1: expected a plain whole number from 1 to 8 for area",
+        "management areawide=2",
+        "line 1: expected a plain whole number from 0 to 1 for areawide",
+    ),
+    (
+        "management small1=1\nmanagement small1=1",
+        "line 2: expected the figure small1 only once",
+    ),
+    (
+        "register company=0 advance=1 instalments=1 verification=0 central=0 points=0 density=1",
+        "line 1: expected the figure award",
+    ),
+    (
+        "file locality=0 company=0 state=1 area=1 expected=1",
+        "line 1: expected the figure smart",
+    ),
+    (
+        "file locality=0 company=0 state=1 area=1 expected=1 smart=0 gross9=1",
+        "line 1: expected only the figures of file locality=0 company=0 state=1 area=1 expected=100 smart=40 gross3=1000000 net3=600000",
     ),
     (
         "metering area=0 class1=1 class2=1 class3=1",
+        "line 1: expected a plain whole number from 1 to 8 for area",
+    ),
+    (
+        "coefficient area=9 value=1",
         "line 1: expected a plain whole number from 1 to 8 for area",
     ),
     (
@@ -77,6 +97,10 @@ static MALFORMED: [(&str, &str); 18] = [
     (
         "bracket end=1 price=1\nbracket end=2 price=1\nbracket end=3 price=1\nbracket end=4 price=1\nbracket end=5 price=1\nbracket end=6 price=1\nbracket end=7 price=1\nbracket end=8 price=1\nbracket end=9 price=1",
         "line 9: expected no more than 8 brackets",
+    ),
+    (
+        "enrol point=0 locality=0 class=1 domestic=0\nbill point=0 volume=1",
+        "line 2: expected the figure days",
     ),
 ];
 
@@ -94,21 +118,32 @@ static GOOD: &str = "# a comment\n\ntariff days=365 rac=18446744073709551615 # a
   distribution   area=8 class3=3 class2=2 class1=1
 bracket end=120 price=7\nbracket price=9 end=480
 coefficient area=8 value=5\nlife row=1 years=20\r
-point place=65535 area=8 class=18446744073709551615 domestic=2
+management large3=4 areawide=1
+register award=7 company=15 advance=-9223372036854775808 instalments=1 verification=2 central=3 points=4 density=18446744073709551615
+file smart=6 locality=300 company=1 state=2 area=3 expected=5 gross1=7 works2=8 remaining8=9
+enrol point=65536 locality=8 class=18446744073709551615 domestic=2
+file locality=1 company=0 state=0 area=0 expected=0 smart=1
 bill point=65535 volume=-9223372036854775808 days=9223372036854775807\nbill days=-0 volume=007 point=0";
+
+fn good(heap: Global) -> Result<BookFile, Fail> {
+    Ok(read(heap, GOOD).ok().ok_or("malformed")?)
+}
 
 #[test]
 fn calls_keep_their_lines(rt: HostRuntime) -> Result<(), Fail> {
     let heap = rt.alloc();
     let mut said = String::new(heap);
-    for numbered in read(heap, GOOD).ok().ok_or("malformed")?.calls.iter() {
+    for numbered in good(heap)?.calls.iter() {
         said.push_str(listed(heap, *numbered)?.as_str())?;
     }
     assert_eq!(rt;
         said.as_str(),
-        "9: point 65535 8 18446744073709551615 2
-10: bill 65535 -9223372036854775808 9223372036854775807
-11: bill 0 7 0
+        "10: register 15: -9223372036854775808 1 2 3 4 18446744073709551615 7
+11: file 300 by filing 0
+12: enrol 65536: 8 18446744073709551615 2
+13: file 1 by filing 1
+14: bill 65535: -9223372036854775808 9223372036854775807
+15: bill 0: 7 0
 "
     );
     Ok(())
@@ -117,23 +152,61 @@ fn calls_keep_their_lines(rt: HostRuntime) -> Result<(), Fail> {
 fn listed(heap: Global, numbered: NumberedCall) -> Result<String, Fail> {
     let line = numbered.line;
     Ok(match numbered.call {
-        Call::Point {
-            place,
-            area,
-            class,
-            domestic,
-        } => format!(in heap; "{line}: point {place} {area} {class} {domestic}\n")?,
-        Call::Bill {
+        Call::Register { company, terms: t } => format!(in heap;
+            "{line}: register {company}: {} {} {} {} {} {} {}\n",
+            t.advance, t.instalments, t.verification, t.central, t.points, t.density, t.year
+        )?,
+        Call::File { locality, filing } => format!(in heap;
+            "{line}: file {locality} by filing {filing}\n"
+        )?,
+        Call::Enrol {
             point,
-            volume,
-            days,
-        } => format!(in heap; "{line}: bill {point} {volume} {days}\n")?,
+            enrolment: e,
+        } => format!(in heap;
+            "{line}: enrol {point}: {} {} {}\n",
+            e.locality, e.class, e.domestic
+        )?,
+        Call::Bill { point, change } => format!(in heap;
+            "{line}: bill {point}: {} {}\n",
+            change.volume, change.days
+        )?,
     })
 }
 
 #[test]
+fn filings_keep_their_figures(rt: HostRuntime) -> Result<(), Fail> {
+    let book = good(rt.alloc())?;
+    let filings = book.filings.as_slice();
+    assert_eq!(rt; filings.len(), 2);
+    let l = filings[0];
+    assert_eq!(rt;
+        (l.company, l.state, l.area, l.expected, l.smart),
+        (1, 2, 3, 5, 6)
+    );
+    assert_eq!(rt;
+        (l.rows[0].gross, l.rows[1].works, l.rows[7].remaining),
+        (7, 8, 9)
+    );
+    assert_eq!(rt;
+        (l.rows[0].net, l.rows[7].gross, filings[1].smart),
+        (0, 0, 1)
+    );
+    Ok(())
+}
+
+#[test]
+fn figures_reach_the_rule(rt: HostRuntime) -> Result<(), Fail> {
+    let rule = good(rt.alloc())?.rule;
+    assert_eq!(rt;
+        (rule.wide, rule.prices[0].0, rule.prices[8].0),
+        (true, 0, 4)
+    );
+    Ok(())
+}
+
+#[test]
 fn figures_reach_the_table(rt: HostRuntime) -> Result<(), Fail> {
-    let t = read(rt.alloc(), GOOD).ok().ok_or("malformed")?.tariff;
+    let t = good(rt.alloc())?.tariff;
     assert_eq!(rt;
         (t.days, t.rate.0, t.rac.0, t.count),
         (365, 0, 18446744073709551615, 2)

@@ -1,12 +1,15 @@
 -- What the figures of the worked year are, one by one.
-use Rattle.std.specs.Prelude.{◌≡◌, true, pos, None}
+use Rattle.std.specs.Prelude.{◌≡◌, true, [], ◌∷◌, pos, None}
 use Rattle.tariff.specs.Limits.{first_bad_figure}
 use Rattle.tariff.specs.Bills.{amounts_of, charge_between}
 use Rattle.tariff.specs.declared.bill.Amounts.{Amounts}
 use Rattle.tables.specs.Filings.{locality_stands}
 use Rattle.tables.specs.Costs.{capital_cost, locality_figure}
 use Rattle.tables.specs.declared.service.Service.TheVariants.{Distribution, Metering}
-use Rattle.worked.specs.Year.{worked_table, worked_supply, worked_locality}
+use Rattle.tables.specs.declared.state.State.TheVariants.{Regime}
+use Rattle.revenue.specs.Served.{served}
+use Rattle.revenue.specs.Recognised.{recognised_revenue}
+use Rattle.worked.specs.Year.{worked_table, worked_supply, worked_locality, worked_point}
 
 abbrev at_start : Amounts
 at_start = amounts_of worked_table worked_supply 0 0
@@ -33,3 +36,8 @@ pub record Worked : Type 0 where
   pub distribution_cost : capital_cost worked_table Distribution worked_locality ≡ 83813
   pub metering_cost : capital_cost worked_table Metering worked_locality ≡ 23135
   pub locality : locality_figure worked_table worked_locality ≡ 138948
+  -- 73 cents of line 3 stand for 0.400 points served, 37 cents for 0.203
+  pub served_146_days : served worked_table (worked_locality ∷ []) (worked_point 500 146 ∷ []) 0 Regime ≡ 400
+  pub served_73_days : served worked_table (worked_locality ∷ []) (worked_point 500 73 ∷ []) 0 Regime ≡ 203
+  -- revenue at an operating price of 30,000,000, without verification and at a central cost of 1,000
+  pub revenue : recognised_revenue worked_table 30000000 0 1000 (worked_locality ∷ []) (worked_point 500 146 ∷ []) 0 ≡ 141421

@@ -1,3 +1,2 @@
 pub mod Year
 pub mod Figures
-pub mod RevenueFigures

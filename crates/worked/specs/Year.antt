@@ -1,4 +1,4 @@
--- What tariff table the worked year has, and what delivery point.
+-- What tariff table the worked year has, what locality and what delivery point.
 use Rattle.std.specs.Prelude.{ℕ, false, [], ◌∷◌, replicate}
 use Rattle.std.proofs.Common.{lit≤}
 use Rattle.units.specs.declared.amounts.PointPrice.{PointPrice}
@@ -9,6 +9,7 @@ use Rattle.tariff.specs.declared.figures.TariffFigures.{TariffFigures}
 use Rattle.tariff.specs.declared.supply.Supply.{Supply}
 use Rattle.tables.specs.declared.rows.AssetRow.{AssetRow}
 use Rattle.tables.specs.declared.rows.LocalityRow.{LocalityRow}
+use Rattle.tables.specs.declared.rows.PointRow.{PointRow}
 
 abbrev pub point_price : ℕ → PointPrice
 point_price p = record { 0 = p }
@@ -63,3 +64,7 @@ worked_locality =
       smart = 40;
       rows = asset 0 0 0 0 ∷ asset 0 0 0 0 ∷ asset 1000000 600000 0 0 ∷ asset 0 0 0 0 ∷ asset 0 0 0 0 ∷ asset 300000 100000 30000 10000 ∷ asset 0 0 0 0 ∷ asset 0 0 0 0 ∷ [];
     }
+
+-- a point in the worked locality, of class 1 and not domestic, at a volume and days
+abbrev pub worked_point : ℕ → ℕ → PointRow
+worked_point volume days = record { locality = 0; class = 1; domestic = 0; volume = volume; days = days }

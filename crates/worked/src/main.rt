@@ -6,15 +6,16 @@ mod compare;
 mod localities;
 mod numbers;
 mod rules;
+mod served;
 mod tariffs;
 mod year;
 
 fn run(rt: &HostRuntime) -> anyhow::Result<()> {
     let _ = year::worked_year();
-    let _ = year::worked_revenue();
     bills::run(rt)?;
     bills::boundaries(rt)?;
     localities::run(rt)?;
+    served::run(rt)?;
     rules::run(rt)?;
     rules::boundaries(rt)
 }

@@ -1,9 +1,10 @@
-// The tariff table as it is filed, from the figures that are given.
+// The tariff table and the management rule as they are filed, from the figures that are given.
 ghost use Rattle.std.specs.Prelude.{◌≡◌, ◌<◌};
 ghost use Rattle.bookfile.specs.declared.table.TheConstants.{SLOTS};
-ghost use Rattle.bookfile.specs.Filed.{figure, bracket, filed};
+ghost use Rattle.bookfile.specs.Filed.{figure, bracket, filed, rule_of};
 
-use super::{BRACKETS, COEFFICIENTS, DISTRIBUTION, LIVES, METERING, Table};
+use super::{BRACKETS, COEFFICIENTS, DISTRIBUTION, LIVES, MANAGEMENT, METERING, Table};
+use crate::rule::RuleFigures;
 use std::array;
 use tariff::figures::{Bracket, Coefficient, Life, Rate, TariffFigures};
 use units::amounts::{PointPrice, VolumePrice};
@@ -31,6 +32,16 @@ impl Table {
             avv: PointPrice(self.figure(8)),
             ins: PointPrice(self.figure(9)),
             rac: PointPrice(self.figure(10)),
+        }
+    }
+
+    /// The figures of the management rule; one that is not given is 0.
+    pub(crate) fn rule(&self) -> RuleFigures
+        ensures { result ≡ rule_of self.now }
+    {
+        RuleFigures {
+            wide: self.figure(MANAGEMENT) == 1,
+            prices: array::from_fn(|i| PointPrice(self.figure(MANAGEMENT + 1 + i))),
         }
     }
 

@@ -1,15 +1,16 @@
 // Putting the figures of statements into the table.
-ghost use Rattle.std.specs.Prelude.{◌≡◌, ◌+◌, ◌≤◌, IfSome};
+ghost use Rattle.std.specs.Prelude.{◌≡◌, ◌+◌, ◌-◌, ◌*◌, ◌≤◌, IfSome};
 ghost use Rattle.bookfile.specs.declared.statement.TheConstants.{MOST_FIGURES};
 ghost use Rattle.bookfile.specs.declared.table.TheConstants.{SLOTS};
+ghost use Rattle.bookfile.specs.Numbers.{whole_at};
 ghost use Rattle.bookfile.specs.Slots.{Puts};
-ghost use Rattle.bookfile.specs.Tables.{empty_table, span_of, table_after};
+ghost use Rattle.bookfile.specs.Tables.{empty_table, next_bracket, span_of, table_after};
 
-use super::{BRACKETS, COEFFICIENTS, DISTRIBUTION, LIVES, METERING, SLOTS, Table};
+use super::{BRACKETS, COEFFICIENTS, DISTRIBUTION, LIVES, MANAGEMENT, METERING, SLOTS, Table};
 use crate::line::Line;
 use crate::malformed::Malformed;
 use crate::slots::{Span, put_all};
-use crate::statement::{MOST_FIGURES, Statement};
+use crate::statement::Statement;
 
 impl Table {
     /// A table without figures.
@@ -38,40 +39,44 @@ fn line_span(line: &Line, brackets: usize) -> Option<Span>
     ensures value { result ≡ span_of line.now.statement line.now.figures brackets }
     ensures room { IfSome result (λ s. (s.slot + s.count ≤ SLOTS) × (s.first + s.count ≤ MOST_FIGURES)) }
 {
-    let (first_slot, count) = match line.statement {
-        Statement::Tariff => return Some(Span {
-            slot: 0,
-            first: 0,
-            count: MOST_FIGURES,
-            brackets,
-        }),
-        Statement::Distribution => (DISTRIBUTION, 3),
-        Statement::Metering => (METERING, 3),
-        Statement::Coefficient => (COEFFICIENTS, 1),
-        Statement::Life => (LIVES, 1),
-        Statement::Bracket if brackets < 8 => {
-            let slot = BRACKETS + 2 * brackets;
-            return Some(Span {
-                slot,
-                first: 0,
-                count: 2,
-                brackets: brackets + 1,
-            });
-        }
-        Statement::Bracket => return None,
-        Statement::Point | Statement::Bill => return Some(Span {
-            slot: 0,
-            first: 0,
-            count: 0,
-            brackets,
-        }),
+    let (slot, first, count) = match line.statement {
+        Statement::Tariff => (0, 0, 11),
+        Statement::Distribution => (row_slot(line, DISTRIBUTION, 3), 1, 3),
+        Statement::Metering => (row_slot(line, METERING, 3), 1, 3),
+        Statement::Coefficient => (row_slot(line, COEFFICIENTS, 1), 1, 1),
+        Statement::Life => (row_slot(line, LIVES, 1), 1, 1),
+        Statement::Bracket => return bracket_span(brackets),
+        Statement::Management => (MANAGEMENT, 0, 10),
+        Statement::Register | Statement::File | Statement::Enrol | Statement::Bill => (0, 0, 0),
     };
-    let row = line.whole(0) as usize;
-    let slot = first_slot + count * (row - 1);
     Some(Span {
         slot,
-        first: 1,
+        first,
         count,
         brackets,
+    })
+}
+
+// Where the figures of a line's area or asset row go, of which each has so many.
+fn row_slot(line: &Line, from: usize, count: usize) -> usize
+    requires row { whole_at line.now.figures 0 ≤ 8 }
+    requires room { (from ≤ SLOTS) × (count ≤ 3) }
+    ensures { result ≡ from + count * (whole_at line.now.figures 0 - 1) }
+{
+    from + count * (line.whole(0) as usize).saturating_sub(1)
+}
+
+// The span of a bracket, after so many.
+fn bracket_span(brackets: usize) -> Option<Span>
+    ensures { result ≡ next_bracket brackets }
+{
+    if brackets >= 8 {
+        return None;
+    }
+    Some(Span {
+        slot: BRACKETS + 2 * brackets,
+        first: 0,
+        count: 2,
+        brackets: brackets + 1,
     })
 }

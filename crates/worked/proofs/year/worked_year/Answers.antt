@@ -2,10 +2,13 @@ use Rattle.std.proofs.Common.{refl}
 use Rattle.rounding.specs.Rounding.{rounded, half_up}
 use Rattle.tariff.specs.Limits.{fixed_tests, variable_tests, cost_tests, first_bad_figure}
 use Rattle.tables.specs.Filings.{limit_fault, odds_fault, locality_stands}
+use Rattle.tables.specs.PointRows.{point_stands}
+use Rattle.revenue.specs.Served.{commercial_cents}
+use Rattle.revenue.specs.Recognised.{locality_figures, recognised}
 use Rattle.worked.proofs.year.worked_year.Goals as goal
 
 pub returns : goal.returns
-unfolding rounded half_up fixed_tests variable_tests cost_tests first_bad_figure limit_fault odds_fault locality_stands
+unfolding rounded half_up fixed_tests variable_tests cost_tests first_bad_figure limit_fault odds_fault locality_stands point_stands commercial_cents locality_figures recognised
 returns c =
     record {
       lawful = refl;
@@ -19,4 +22,7 @@ returns c =
       distribution_cost = refl;
       metering_cost = refl;
       locality = refl;
+      served_146_days = refl;
+      served_73_days = refl;
+      revenue = refl;
     }
