@@ -4,7 +4,7 @@ use Rattle.std.proofs.ByRecursion.{All-append}
 use Rattle.std.specs.Str.Lines.{IsFirstLine as Row}
 use Rattle.std.specs.List.{AllByRecursion}
 use Rattle.tables.specs.declared.rows.LocalityRow.{LocalityRow}
-use Rattle.bookfile.specs.declared.calls.Call.{Call}
+use Rattle.bookfile.specs.declared.call.Call.{Call}
 use Rattle.bookfile.specs.declared.file.BookFile.{BookFile}
 use Rattle.bookfile.specs.declared.file.NumberedCall.{NumberedCall}
 use Rattle.bookfile.specs.declared.line.Line.{Line}

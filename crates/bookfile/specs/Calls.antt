@@ -3,8 +3,8 @@ use Rattle.std.specs.Prelude.{ℕ, List, ℤ, Some, None, Option}
 use Rattle.company.specs.declared.figures.TermsFigures.{TermsFigures}
 use Rattle.tariff.specs.declared.supply.Change.{Change}
 use Rattle.calls.specs.declared.enrolling.Enrolment.{Enrolment}
-use Rattle.bookfile.specs.declared.calls.Call.{Call}
-use Rattle.bookfile.specs.declared.calls.Call.TheVariants as call
+use Rattle.bookfile.specs.declared.call.Call.{Call}
+use Rattle.bookfile.specs.declared.call.Call.TheVariants as call
 use Rattle.bookfile.specs.declared.statement.Statement.{Statement}
 use Rattle.bookfile.specs.declared.statement.Statement.TheVariants.{Tariff, Distribution, Metering, Bracket, Coefficient, Life, Management, Register, File, Enrol, Bill}
 use Rattle.bookfile.specs.Numbers.{whole_at, change_at}

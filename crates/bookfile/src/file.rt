@@ -3,7 +3,7 @@ ghost use Rattle.std.specs.Prelude.{◌≡◌, ◌++◌, length, IfOk, IfErr, Ma
 ghost use Rattle.bookfile.specs.declared.file.Unread.TheVariants.{Memory};
 ghost use Rattle.bookfile.specs.Files.{Says, Placed, Step, line_filings, line_calls};
 
-use crate::calls::{Call, call_of};
+use crate::call::{Call, call_of};
 use crate::filing::filing_of;
 use crate::line::Line;
 use crate::malformed::Malformed;

@@ -1,7 +1,7 @@
 // The book file: its syntax, and what a file says.
 #![tactic(auto)]
 
-pub mod calls;
+pub mod call;
 pub mod file;
 mod filing;
 mod line;

@@ -44,10 +44,7 @@ pub fn write_locality<W: fmt::Write>(
         ("unit component of metering", Service::Metering),
     ] {
         match locality.unit_component(tariff, service, place) {
-            Ok(component) => writeln!(
-                out,
-                "  {name:<31}{component:>20} millionths of a euro"
-            )?,
+            Ok(component) => writeln!(out, "  {name:<31}{component:>20} millionths of a euro")?,
             Err(refusal) => writeln!(out, "  {name}: {refusal}")?,
         }
     }

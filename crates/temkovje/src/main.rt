@@ -3,7 +3,7 @@
 
 mod failure;
 mod run;
-mod tables;
+mod year_tables;
 
 use failure::Failure;
 use run::run_book;

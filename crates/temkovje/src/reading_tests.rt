@@ -1,5 +1,5 @@
 // What the reader says of example files.
-use bookfile::calls::Call;
+use bookfile::call::Call;
 use bookfile::file::{BookFile, NumberedCall, read};
 use std::alloc::Global;
 use std::test::Fail;

@@ -1,6 +1,6 @@
 // A book file run from its text to what it prints.
 use crate::failure::Failure;
-use crate::tables::YearTables;
+use crate::year_tables::YearTables;
 use bookfile::file::{BookFile, read};
 use management::area_wide::AreaWide;
 use management::municipal::Municipal;

@@ -1,5 +1,5 @@
 // What the calls of a book file write: its companies, its localities and its points.
-use bookfile::calls::Call;
+use bookfile::call::Call;
 use company::terms::Terms;
 use management::rule::Management;
 use report::answers::{write_enrolling, write_filing, write_registering};
