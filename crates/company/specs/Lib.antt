@@ -1,2 +1,4 @@
 pub mod Terms
+pub mod Made
 pub mod Instalments
+pub mod Events

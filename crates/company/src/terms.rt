@@ -1,7 +1,6 @@
 // The terms of a company: figures that keep every limit, and no others.
 ghost use Rattle.std.specs.Prelude.{◌≡◌, false, is_some};
-ghost use Rattle.limits.specs.Checked.{made_of};
-ghost use Rattle.company.specs.Terms.{first_bad_term, checked, Within};
+ghost use Rattle.company.specs.Terms.{first_bad_term, Within};
 
 use crate::figures::TermsFigures;
 use limits::unless_bad;
@@ -16,9 +15,11 @@ pub struct Terms {
 
 /// The refusal is by number 7, with the number of the first bad figure.
 impl TryFrom<TermsFigures> for Terms {
+    ghost use Rattle.company.specs.Made.{terms_of};
+
     type Error = Refusal;
 
-    ghost try_from_gives = { λ figures r. made_of (λ t. t.figures) r ≡ checked figures };
+    ghost try_from_gives = { λ figures r. r ≡ terms_of figures };
 
     fn try_from(figures: TermsFigures) -> Result<Self, Refusal> {
         unless_bad(Reason::FigureLimit, figures.first_bad())?;
