@@ -1,27 +1,31 @@
 -- What each call meets: what it is granted, or the first refusal that applies.
 use Rattle.std.specs.Prelude.{ℕ, Bool, not, ◌&&◌, List, length, ℤ, is_some, None, Ok, Option, Result, ◌==◌, nat_le, nat_lt, slice_index_or}
-use Rattle.units.specs.declared.refusal.Reason.TheVariants.{PastTable, PlaceTaken, FigureLimit}
+use Rattle.units.specs.declared.refusal.Reason.TheVariants.{PastTable, PlaceTaken, FigureLimit, NotTheOrderOut}
 use Rattle.units.specs.declared.refusal.Refusal.{Refusal}
 use Rattle.units.specs.Refusals.{refused_at}
 use Rattle.limits.specs.First.{among}
 use Rattle.tariff.specs.declared.figures.TariffFigures.{TariffFigures}
-use Rattle.tariff.specs.declared.bill.Bill.{Bill}
 use Rattle.tariff.specs.Bills.{bill_at}
 use Rattle.tables.specs.declared.rows.LocalityRow.{LocalityRow}
 use Rattle.tables.specs.declared.rows.PointRow.{PointRow}
 use Rattle.tables.specs.Filings.{filing_fault}
 use Rattle.tables.specs.Lookups.{locality_at, point_at}
 use Rattle.company.specs.declared.figures.TermsFigures.{TermsFigures}
+use Rattle.company.specs.declared.record.Company.{Company}
+use Rattle.company.specs.declared.record.Event.{Event}
+use Rattle.company.specs.declared.record.Event.TheVariants.{File, Enrol, Bill as BillEvent}
 use Rattle.company.specs.declared.terms.Terms.{Terms}
-use Rattle.company.specs.Terms.{checked}
+use Rattle.company.specs.Events.{act_answer, act_after}
+use Rattle.company.specs.Made.{terms_of}
 use Rattle.limits.specs.Checked.{faultless}
+use Rattle.calls.specs.declared.billing.Charged.{Charged}
 use Rattle.calls.specs.Steps.{when, found, next}
 
--- the sixteen companies, each with the terms that it registered
+-- the sixteen places of companies
 abbrev pub Companies : Type 0
-Companies = List (Option Terms)
+Companies = List (Option Company)
 
-abbrev pub company_at : Companies → ℕ → Option Terms
+abbrev pub company_at : Companies → ℕ → Option Company
 company_at companies place = slice_index_or companies place None
 
 -- neither table is longer than it may be
@@ -29,21 +33,26 @@ abbrev pub tables_fit : List LocalityRow → List PointRow → Bool
 tables_fit localities points = nat_le (length localities) 256 && nat_le (length points) 65536
 
 -- registering a company: 4 past the sixteen, 6 where one is registered, 7 at the first bad figure
-abbrev pub registering : Companies → (company : ℕ) → TermsFigures → Result TermsFigures Refusal
+abbrev pub registering : Companies → (company : ℕ) → TermsFigures → Result Terms Refusal
 registering companies company figures =
     when (nat_lt company 16) PastTable company
     (when (not (is_some (company_at companies company))) PlaceTaken company
-    (checked figures))
+    (terms_of figures))
+
+-- a company after an event, and the instalment that it is about
+abbrev pub after_event : Company → (company : ℕ) → Event → Result (Company × ℕ) Refusal
+after_event c company event = next (refused_at company (act_answer c event)) (λ k. Ok (act_after c event, k))
 
 -- filing a locality: 4 for a table too long, a place past it or a company past the sixteen, 5 for a company that is not registered, then
--- 7 or 8 at the figure at fault
+-- 7 or 8 at the figure at fault, and 9 for a closed company
 abbrev pub filing : Companies → List LocalityRow → (place : ℕ) → LocalityRow → Result LocalityRow Refusal
 filing companies localities place row =
     when (nat_le (length localities) 256) PastTable 0
     (when (nat_lt place (length localities)) PastTable place
     (when (nat_lt row.company 16) PastTable row.company
-    (found (company_at companies row.company) row.company (λ terms.
-    faultless (filing_fault (locality_at localities place) row) row))))
+    (found (company_at companies row.company) row.company (λ c.
+    next (faultless (filing_fault (locality_at localities place) row) row) (λ filed.
+    next (after_event c row.company File) (λ _. Ok filed))))))
 
 -- the row of a new point, of which nothing is billed yet: 7 for the class and then for domestic
 abbrev pub enrolled_within : (locality class domestic : ℕ) → Result PointRow Refusal
@@ -53,32 +62,45 @@ enrolled_within locality class domestic =
     (Ok (record { locality = locality; class = class; domestic = domestic; volume = 0; days = 0 })))
 
 -- enrolling a point: 4 for a table too long, then for the point's and the locality's place, 5 for the locality and then its company, 6 where a
--- point stands, then 7
+-- point stands, then 7, and 9 for a closed company
 abbrev pub enrolling : Companies → List LocalityRow → List PointRow → (point locality class domestic : ℕ) → Result PointRow Refusal
 enrolling companies localities points point locality class domestic =
     when (tables_fit localities points) PastTable 0
     (when (nat_lt point (length points)) PastTable point
     (when (nat_lt locality (length localities)) PastTable locality
     (found (locality_at localities locality) locality (λ l.
-    found (company_at companies l.company) l.company (λ terms.
+    found (company_at companies l.company) l.company (λ c.
     when (not (is_some (point_at points point))) PlaceTaken point
-    (enrolled_within locality class domestic))))))
+    (next (enrolled_within locality class domestic) (λ row.
+    next (after_event c l.company Enrol) (λ _. Ok row))))))))
 
--- the point at a place with its locality: 4 for a table too long, then for the place, 5 for the point, its locality and the company in turn
+-- the point at a place with its locality, to bill it: 4 for a table too long, then for the place, 5 for the point, its locality and the company
+-- in turn, 9 for a closed company
 abbrev pub seated : Companies → List LocalityRow → List PointRow → (point : ℕ) → Result (PointRow × LocalityRow) Refusal
 seated companies localities points point =
     when (tables_fit localities points) PastTable 0
     (when (nat_lt point (length points)) PastTable point
     (found (point_at points point) point (λ p.
     found (locality_at localities p.locality) p.locality (λ l.
-    found (company_at companies l.company) l.company (λ terms.
-    Ok (p, l))))))
+    found (company_at companies l.company) l.company (λ c.
+    next (after_event c l.company BillEvent) (λ _. Ok (p, l)))))))
 
 -- a bill of the point in the locality: 14 or 15 with the point's place
-abbrev pub charged : TariffFigures → PointRow → LocalityRow → (point : ℕ) → (dv dd : ℤ) → Result Bill Refusal
-charged t p l point dv dd = refused_at point (bill_at t l.area p.class (p.domestic == 1) p.volume p.days dv dd)
+abbrev pub charged : TariffFigures → PointRow → LocalityRow → (point : ℕ) → (dv dd : ℤ) → Result Charged Refusal
+charged t p l point dv dd =
+    next (refused_at point (bill_at t l.area p.class (p.domestic == 1) p.volume p.days dv dd)) (λ bill.
+    Ok (record { company = l.company; bill = bill }))
 
 -- billing a point
-abbrev pub billing : TariffFigures → Companies → List LocalityRow → List PointRow → (point : ℕ) → (dv dd : ℤ) → Result Bill Refusal
+abbrev pub billing : TariffFigures → Companies → List LocalityRow → List PointRow → (point : ℕ) → (dv dd : ℤ) → Result Charged Refusal
 billing t companies localities points point dv dd =
     next (seated companies localities points point) (λ seat. charged t seat.0 seat.1 point dv dd)
+
+-- an event of a company, where the order that it names is of the book with this number: 4 past the sixteen, 5 where none is registered, 13 for
+-- another book, then what the company answers
+abbrev pub deciding : Companies → (own number company : ℕ) → Event → Result (Company × ℕ) Refusal
+deciding companies own number company event =
+    when (nat_lt company 16) PastTable company
+    (found (company_at companies company) company (λ c.
+    when (number == own) NotTheOrderOut company
+    (after_event c company event)))

@@ -2,8 +2,9 @@
 ghost use Rattle.std.specs.Prelude.{◌≡◌, ◌<◌, length, OnOk};
 ghost use Rattle.calls.specs.Decisions.{enrolled_within, enrolling};
 
-use crate::places::company_at;
+use crate::places::{after_event, company_at};
 use crate::records::Records;
+use company::record::Event;
 use limits::among;
 use tables::lookup::record_at;
 use tables::rows::PointRow;
@@ -34,12 +35,14 @@ impl<'a> Records<'a> {
             return Err(Reason::PastTable.at(seat));
         }
         let locality = record_at(self.localities, seat).ok_or(Reason::NothingThere.at(seat))?;
-        let company = locality.row().company;
-        company_at(self.companies, company).ok_or(Reason::NothingThere.at(company))?;
+        let owner = locality.row().company;
+        let company = company_at(self.companies, owner).ok_or(Reason::NothingThere.at(owner))?;
         if record_at(self.points, point).is_some() {
             return Err(Reason::PlaceTaken.at(point));
         }
-        enrolment.row()
+        let row = enrolment.row()?;
+        after_event(company, owner, Event::Enrol)?;
+        Ok(row)
     }
 }
 

@@ -2,6 +2,7 @@
 #![tactic(auto)]
 
 pub mod billing;
+pub mod deciding;
 pub mod enrolling;
 pub mod filing;
 mod places;

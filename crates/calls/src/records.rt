@@ -2,13 +2,13 @@
 ghost use Rattle.std.specs.Prelude.{◌≡◌};
 ghost use Rattle.calls.specs.Decisions.{tables_fit};
 
-use company::terms::Terms;
+use company::record::Company;
 use tables::rows::{LocalityRow, MOST_LOCALITIES, MOST_POINTS, PointRow};
 
 /// The sixteen companies, and the two tables that are lent to a book.
 #[derive(Clone, Copy, Debug, PartialEq, Eq)]
 pub struct Records<'a> {
-    pub companies: &'a [Option<Terms>; 16],
+    pub companies: &'a [Option<Company>; 16],
     pub localities: &'a [LocalityRow],
     pub points: &'a [PointRow],
 }

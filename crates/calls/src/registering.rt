@@ -1,21 +1,21 @@
 // Registering a company.
 ghost use Rattle.std.specs.Prelude.{◌≡◌, ◌<◌, OnOk};
-ghost use Rattle.limits.specs.Checked.{made_of};
 ghost use Rattle.calls.specs.Decisions.{registering};
 
 use crate::places::company_at;
 use company::figures::TermsFigures;
+use company::record::Company;
 use company::terms::Terms;
 use units::refusal::{Reason, Refusal};
 
 /// The terms that a company registers at a place, or the first refusal.
 pub fn registering(
-    companies: &[Option<Terms>; 16],
+    companies: &[Option<Company>; 16],
     company: u64,
     figures: TermsFigures,
 ) -> Result<Terms, Refusal>
     ensures within { OnOk result (company < 16) }
-    ensures answer { made_of (λ t. t.figures) result ≡ registering companies.now company figures }
+    ensures answer { result ≡ registering companies.now company figures }
 {
     if company >= 16 {
         return Err(Reason::PastTable.at(company));

@@ -15,6 +15,7 @@ use Rattle.revenue.specs.Owners.{owns, seat, serves, serves_in}
 use Rattle.revenue.specs.Billed.{point_tariff, billed}
 use Rattle.revenue.specs.Served.{point_commercial, commercial_cents}
 use Rattle.revenue.specs.Recognised.{locality_figures}
+use Rattle.revenue.specs.Ug1.{point_ug1, ug1_due}
 
 -- ---- A point's row
 module _ (t : TariffFigures) (ls : List LocalityRow) (ps : List PointRow) (company : ℕ) (i : ℕ) (new d : PointRow) where
@@ -37,6 +38,10 @@ module _ (t : TariffFigures) (ls : List LocalityRow) (ps : List PointRow) (compa
     commercial_foreign state =
         let no : (p : PointRow) → serves ls company p ≡ false → serves_in ls company state p ≡ false = λ p h. ap (λ (b : Bool). b && eqb (seat ls p).state (state_number state)) h in
         sum_if_foreign (serves_in ls company state) (point_commercial t) ps i new d (no (get_or ps i d) old_foreign) (no new new_foreign)
+
+pub ug1_set : (t : TariffFigures) (ps : List PointRow) (i : ℕ) (new d : PointRow) → i < length ps → ug1_due t (set ps i new) + cond (point_stands (get_or ps i d)) (point_ug1 t (get_or ps i d)) 0 ≡ ug1_due t ps + cond (point_stands new) (point_ug1 t new) 0
+unfolding ug1_due
+ug1_set t ps i new d within = sum_n_set (λ p. cond (point_stands p) (point_ug1 t p) 0) ps i new d within
 
 -- ---- A locality's row
 pub localities_set : (t : TariffFigures) (ls : List LocalityRow) (company : ℕ) (i : ℕ) (new d : LocalityRow) → i < length ls → locality_figures t (set ls i new) company + cond (owns company (get_or ls i d)) (locality_figure t (get_or ls i d)) 0 ≡ locality_figures t ls company + cond (owns company new) (locality_figure t new) 0

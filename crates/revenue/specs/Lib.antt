@@ -2,3 +2,4 @@ pub mod Owners
 pub mod Billed
 pub mod Served
 pub mod Recognised
+pub mod Ug1

@@ -6,6 +6,7 @@ use tables::rows::{LocalityRow, PointRow};
 pub mod makes;
 pub mod revenue;
 pub mod sums;
+pub mod ug1;
 
 /// The locality table, of at most 256 rows, and the point table, of at most 65,536. The tariff and the company that are asked for stay parameters:
 /// in one value with the tables, each clause would name all four through it.

@@ -1,0 +1,5 @@
+pub mod Tables
+pub mod States
+pub mod Openings
+pub mod Companies
+pub mod Rows

@@ -1,0 +1,30 @@
+// A year's book over a journal and a management rule. The tables of localities and points are lent to each call.
+ghost use Rattle.std.specs.Prelude.{◌≡◌, None};
+
+use crate::opened::Opened;
+use journal::kept::Journal;
+use management::rule::Management;
+
+mod opening;
+mod orders;
+mod registering;
+mod rows;
+
+pub struct Book<J: Journal, M: Management> {
+    journal: J,
+    rule: M,
+    opened: Option<Opened>,
+}
+
+impl<J: Journal, M: Management> Book<J, M> {
+    /// A book that is not open yet.
+    pub fn new(journal: J, rule: M) -> Book<J, M>
+        ensures { result ≡ record { journal = journal; rule = rule; opened = None } }
+    {
+        Book {
+            journal,
+            rule,
+            opened: None,
+        }
+    }
+}

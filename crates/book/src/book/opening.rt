@@ -1,0 +1,53 @@
+// Opening a book.
+ghost use Rattle.std.specs.Prelude.{◌≡◌};
+ghost use Rattle.tables.specs.Blank.{no_locality, no_point};
+ghost use Rattle.book.specs.States.{state};
+ghost use Rattle.book.specs.Openings.{opening, opened_by, blanked};
+
+use super::Book;
+use crate::opened::Opened;
+use journal::kept::Journal;
+use management::rule::Management;
+use tables::blank::blank;
+use tables::rows::{LocalityRow, MOST_LOCALITIES, MOST_POINTS, PointRow};
+use tariff::table::Tariff;
+use units::refusal::{Reason, Refusal};
+
+impl<J: Journal, M: Management> Book<J, M> {
+    /// Opens the book: the tariff table is copied for good, and both lent tables are blank afterwards.
+    pub fn open(
+        &mut self,
+        tariff: &Tariff,
+        number: u64,
+        sum: i64,
+        localities: &mut [LocalityRow],
+        points: &mut [PointRow],
+    ) -> Result<(), Refusal>
+        ensures answer { result ≡ opening (state J.Journal M.Management self.old) number sum localities.old points.old }
+        ensures after { state J.Journal M.Management self.new ≡ opened_by (state J.Journal M.Management self.old) tariff.now number sum result }
+        ensures localities { localities.new ≡ blanked no_locality localities.old result }
+        ensures points { points.new ≡ blanked no_point points.old result }
+    {
+        if self.opened.is_some() || self.journal.len() != 0 {
+            return Err(Reason::BookInUse.at(0));
+        }
+        if localities.len() > MOST_LOCALITIES || points.len() > MOST_POINTS {
+            return Err(Reason::PastTable.at(0));
+        }
+        if number > 65_535 {
+            return Err(Reason::FigureLimit.at(1));
+        }
+        if sum.unsigned_abs() > 1_000_000_000_000 {
+            return Err(Reason::FigureLimit.at(2));
+        }
+        self.opened = Some(Opened {
+            tariff: *tariff,
+            number,
+            sum,
+            companies: [None; 16],
+        });
+        blank(localities);
+        blank(points);
+        Ok(())
+    }
+}

@@ -1,0 +1,97 @@
+// The calls that write a row of a lent table: filing a locality, enrolling a point and billing it.
+ghost use Rattle.std.specs.Prelude.{◌≡◌, slice_index_or};
+ghost use Rattle.tables.specs.Blank.{no_point};
+ghost use Rattle.book.specs.States.{state};
+ghost use Rattle.book.specs.Tables.{written, billed_row};
+ghost use Rattle.book.specs.Rows.{filing, enrolling, billing, bill_of, billed_by};
+
+use super::Book;
+use calls::enrolling::Enrolment;
+use calls::filing::filing;
+use calls::records::Records;
+use journal::entry::{Entry, Kind};
+use journal::kept::Journal;
+use management::rule::Management;
+use tables::rows::{LocalityRow, PointRow};
+use tariff::bill::Bill;
+use tariff::supply::Change;
+use units::refusal::{Reason, Refusal};
+
+impl<J: Journal, M: Management> Book<J, M> {
+    /// Files a locality at a place; filing again replaces the figures.
+    pub fn file(
+        &self,
+        localities: &mut [LocalityRow],
+        place: u64,
+        row: LocalityRow,
+    ) -> Result<LocalityRow, Refusal>
+        ensures answer { result ≡ filing (state J.Journal M.Management self.now) localities.old place row }
+        ensures after { localities.new ≡ written (λ l. l) localities.old place result }
+    {
+        let opened = self.opened.as_ref().ok_or(Reason::BookNotOpen.at(0))?;
+        let row = filing(&opened.companies, localities, place, row)?;
+        localities[place as usize] = row;
+        Ok(row)
+    }
+
+    /// Enrols a point at a place, in a locality.
+    pub fn enrol(
+        &self,
+        localities: &[LocalityRow],
+        points: &mut [PointRow],
+        point: u64,
+        enrolment: Enrolment,
+    ) -> Result<PointRow, Refusal>
+        ensures answer { result ≡ enrolling (state J.Journal M.Management self.now) localities.now points.old point enrolment }
+        ensures after { points.new ≡ written (λ p. p) points.old point result }
+    {
+        let opened = self.opened.as_ref().ok_or(Reason::BookNotOpen.at(0))?;
+        let records = Records {
+            companies: &opened.companies,
+            localities,
+            points: &*points,
+        };
+        let row = records.enrolling(point, enrolment)?;
+        points[point as usize] = row;
+        Ok(row)
+    }
+
+    /// Bills a point: its volume and days change, and by the tariff its line amounts. A bill is an entry of the journal.
+    pub fn bill(
+        &mut self,
+        localities: &[LocalityRow],
+        points: &mut [PointRow],
+        point: u64,
+        change: Change,
+    ) -> Result<Bill, Refusal>
+        ensures answer { result ≡ bill_of (billing (state J.Journal M.Management self.old) localities.now points.old point change.volume change.days) }
+        ensures after { state J.Journal M.Management self.new ≡ billed_by (state J.Journal M.Management self.old) point change.volume change.days (billing (state J.Journal M.Management self.old) localities.now points.old point change.volume change.days) }
+        ensures points { points.new ≡ written (billed_row (slice_index_or points.old point no_point)) points.old point result }
+    {
+        let opened = self.opened.as_ref().ok_or(Reason::BookNotOpen.at(0))?;
+        let records = Records {
+            companies: &opened.companies,
+            localities,
+            points: &*points,
+        };
+        let charged = records.billing(&opened.tariff, point, change)?;
+        let bill = charged.bill;
+        self.journal.append(Entry {
+            kind: Kind::Bill,
+            company: charged.company,
+            place: point,
+            volume: change.volume,
+            days: change.days,
+            amount: bill.charge.tariff,
+            ug1: bill.charge.ug1,
+            other: bill.charge.gs,
+        })?;
+        let row = points[point as usize];
+        points[point as usize] = PointRow {
+            volume: bill.volume,
+            days: bill.days,
+            ..row
+        };
+        Ok(bill)
+    }
+}
