@@ -16,7 +16,6 @@ use Rattle.calls.specs.Steps.{next}
 use Rattle.book.specs.declared.opened.Opened.{Opened}
 use Rattle.book.specs.declared.order.Order.{Order}
 use Rattle.book.specs.declared.order.DrawnOrder.{DrawnOrder}
-use Rattle.book.specs.declared.order.SentOrder.{SentOrder}
 use Rattle.book.specs.declared.order.Returned.{Returned}
 use Rattle.book.specs.States.{BookState, when_open, in_room, noted, with_company}
 

@@ -3,3 +3,4 @@ pub mod States
 pub mod Openings
 pub mod Companies
 pub mod Rows
+pub mod Questions

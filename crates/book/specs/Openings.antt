@@ -1,5 +1,5 @@
 -- What opening a book meets, and what it leaves.
-use Rattle.std.specs.Prelude.{ℕ, not, List, length, ℤ, is_some, Some, None, Ok, Err, Option, Result, ◌==◌, nat_le, replicate, unsigned_abs}
+use Rattle.std.specs.Prelude.{ℕ, not, List, length, ℤ, is_some, Some, None, Ok, Err, Result, ◌==◌, nat_le, replicate, unsigned_abs}
 use Rattle.units.specs.declared.refusal.Reason.TheVariants.{BookInUse, PastTable, FigureLimit}
 use Rattle.units.specs.declared.refusal.Refusal.{Refusal}
 use Rattle.tariff.specs.declared.table.Tariff.{Tariff}

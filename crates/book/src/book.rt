@@ -7,6 +7,7 @@ use management::rule::Management;
 
 mod opening;
 mod orders;
+mod questions;
 mod registering;
 mod rows;
 

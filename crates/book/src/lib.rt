@@ -5,3 +5,4 @@ pub mod book;
 pub mod costs;
 pub mod opened;
 pub mod order;
+mod settlement;

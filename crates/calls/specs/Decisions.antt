@@ -104,3 +104,16 @@ deciding companies own number company event =
     (found (company_at companies company) company (λ c.
     when (number == own) NotTheOrderOut company
     (after_event c company event)))
+
+-- the locality at a place, for a question: 4 for a table too long, then for the place, 5 where none stands
+abbrev pub asked_locality : List LocalityRow → (place : ℕ) → Result LocalityRow Refusal
+asked_locality localities place =
+    when (nat_le (length localities) 256) PastTable 0
+    (when (nat_lt place (length localities)) PastTable place
+    (found (locality_at localities place) place (λ l. Ok l)))
+
+-- the company at a place, for a question: 4 past the sixteen, 5 where none is registered
+abbrev pub asked_company : Companies → (company : ℕ) → Result Company Refusal
+asked_company companies company =
+    when (nat_lt company 16) PastTable company
+    (found (company_at companies company) company (λ c. Ok c))

@@ -1,6 +1,7 @@
 // What the calls of a book meet: what each is granted, or the first refusal that applies.
 #![tactic(auto)]
 
+pub mod asking;
 pub mod billing;
 pub mod deciding;
 pub mod enrolling;

@@ -1,5 +1,5 @@
 -- What each event meets at a company, and what it makes of it.
-use Rattle.std.specs.Prelude.{ℕ, ◌+◌, Bool, false, cond, pos, Ok, Err, Result, ◌==◌, nat_lt}
+use Rattle.std.specs.Prelude.{ℕ, ◌+◌, Bool, false, cond, ℤ, pos, Ok, Err, Result, ◌==◌, nat_lt}
 use Rattle.units.specs.declared.refusal.Reason.{Reason}
 use Rattle.units.specs.declared.refusal.Reason.TheVariants.{CompanyClosed, OrderOut, AllPaid, NotTheOrderOut}
 use Rattle.company.specs.declared.record.Company.{Company}
@@ -8,6 +8,7 @@ use Rattle.company.specs.declared.record.Event.TheVariants.{File, Enrol, Bill, D
 use Rattle.company.specs.declared.record.Phase.{Phase}
 use Rattle.company.specs.declared.record.Phase.TheVariants.{Free, Drawn, Sent, Closed}
 use Rattle.company.specs.declared.terms.Terms.{Terms}
+use Rattle.company.specs.Instalments.{paid_up_to}
 
 -- open, with no instalment paid, no order out and no balance booked
 abbrev pub new_company : Terms → Company
@@ -85,3 +86,7 @@ moved c e (Err refused) = c
 
 abbrev pub act_after : Company → Event → Company
 act_after c e = moved c e (act_answer c e)
+
+-- a company's advances: the instalments that are paid
+abbrev pub advances : Company → ℤ
+advances c = paid_up_to c.terms.figures.advance c.terms.figures.instalments c.paid

@@ -1,10 +1,11 @@
 // A company's record, and what each event makes of it.
-ghost use Rattle.std.specs.Prelude.{◌≡◌};
+ghost use Rattle.std.specs.Prelude.{◌≡◌, pos, neg_ℤ, ◌≤ℤ◌};
 ghost use Rattle.company.specs.declared.record.Event.TheVariants.{Draw};
 ghost use Rattle.company.specs.declared.record.Phase.TheVariants.{Free};
-ghost use Rattle.company.specs.Events.{act_answer, act_after, new_company};
+ghost use Rattle.company.specs.Events.{act_answer, act_after, advances, new_company};
 
 use crate::terms::Terms;
+use units::amounts::Cents;
 use units::refusal::Reason;
 
 /// How a company stands. An order that is out is for an instalment.
@@ -52,6 +53,14 @@ impl Company {
             phase: Phase::Free,
             balances: 0,
         }
+    }
+
+    /// The instalments that are paid, together.
+    pub fn advances(&self) -> Cents
+        ensures value { result.0 ≡ advances self.now }
+        ensures small { (result.0 ≤ℤ pos 255000000000000) × (neg_ℤ (pos 255000000000000) ≤ℤ result.0) }
+    {
+        self.terms.paid_up_to(self.paid)
     }
 
     /// Takes an event: answers the instalment that it is about, or 0, and moves. A refused event moves nothing.

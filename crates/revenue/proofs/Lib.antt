@@ -1,4 +1,3 @@
-pub mod Fronts
 pub mod Nearing
 pub mod Shares
 pub mod Turns

@@ -1,18 +1,19 @@
-// How lent tables are taken.
-ghost use Rattle.std.specs.Prelude.{◌≡◌, take};
+// Taking the two lent tables.
+ghost use Rattle.std.specs.Prelude.{◌≡◌, ◌&&◌, length, is_some, IfSome, nat_le};
 
 use crate::lent::Tables;
 use tables::rows::{LocalityRow, MOST_LOCALITIES, MOST_POINTS, PointRow};
 
 impl<'a> Tables<'a> {
-    /// The first 256 localities and the first 65,536 points: a book has no more, and its calls refuse a longer table.
-    pub fn of(localities: &'a [LocalityRow], points: &'a [PointRow]) -> Tables<'a>
-        ensures localities { result.localities.now ≡ take 256 localities.now }
-        ensures points { result.points.now ≡ take 65536 points.now }
+    /// Both tables, if neither is longer than it may be.
+    pub fn new(localities: &'a [LocalityRow], points: &'a [PointRow]) -> Option<Tables<'a>>
+        ensures test { is_some result ≡ (nat_le (length localities.now) 256 && nat_le (length points.now) 65536) }
+        ensures kept { IfSome result (λ t. (t.localities.now ≡ localities.now) × (t.points.now ≡ points.now)) }
     {
-        Tables {
-            localities: &localities[..localities.len().min(MOST_LOCALITIES)],
-            points: &points[..points.len().min(MOST_POINTS)],
+        if localities.len() <= MOST_LOCALITIES && points.len() <= MOST_POINTS {
+            Some(Tables { localities, points })
+        } else {
+            None
         }
     }
 }

@@ -52,6 +52,7 @@ impl<'a> Tables<'a> {
     pub fn revenue(self, tariff: &Tariff, costs: Costs, company: u64) -> Revenue
         ensures value { result ≡ recognised tariff.now.figures costs.operating.0 costs.verification costs.central self.entry.localities.now self.entry.points.now company }
         ensures near { Near (exact_revenue tariff.now.figures costs.operating.0 costs.verification costs.central self.entry.localities.now self.entry.points.now company) (pos (total result)) (12 * count_if (owns company) self.entry.localities.now + 4) }
+        ensures small { total result ≤ 1300000000000000 }
     {
         let added = self.locality_figures(tariff, company);
         self.served(tariff, company).revenue(tariff, costs, added)

@@ -1,7 +1,7 @@
 // The parts of recognised revenue by the points that were served.
-ghost use Rattle.std.specs.Prelude.{◌≡◌, ◌≤◌};
+ghost use Rattle.std.specs.Prelude.{◌≡◌, ◌+◌, ◌≤◌};
 ghost use Rattle.rounding.specs.Rounding.{rounded};
-ghost use Rattle.revenue.specs.Recognised.{exact_for_points, parts_at};
+ghost use Rattle.revenue.specs.Recognised.{exact_for_points, parts_at, total};
 
 use crate::costs::Costs;
 use crate::parts::Revenue;
@@ -12,7 +12,8 @@ use tariff::table::Tariff;
 fn for_points(price: u64, points: u64) -> u64
     requires price { price ≤ 2000000000 }
     requires points { points ≤ 262930432 }
-    ensures { result ≡ rounded (exact_for_points price points) }
+    ensures value { result ≡ rounded (exact_for_points price points) }
+    ensures small { result ≤ 100000000000 }
 {
     rounding::round_half_up(price * points, 10_000_000)
 }
@@ -20,7 +21,8 @@ fn for_points(price: u64, points: u64) -> u64
 impl Served {
     /// The parts of the revenue of a company that served these points, to which its localities add so many cents.
     pub fn revenue(self, tariff: &Tariff, costs: Costs, added: u64) -> Revenue
-        ensures { result ≡ parts_at tariff.now.figures costs.operating.0 costs.verification costs.central added self.regime.0 self.startup.0 }
+        ensures value { result ≡ parts_at tariff.now.figures costs.operating.0 costs.verification costs.central added self.regime.0 self.startup.0 }
+        ensures small { total result ≤ added + 2400000000000 }
     {
         let both = self.regime.0 + self.startup.0;
         let t = tariff.figures();

@@ -1,4 +1,4 @@
-use Rattle.std.proofs.Common.{◌≡◌, ◌+◌, ◌*◌, pos, sym, ◌∙◌, subst}
+use Rattle.std.proofs.Common.{◌≡◌, ◌+◌, ◌*◌, pos, sym, ◌∙◌, subst, arith}
 use Rattle.rounding.specs.Nearness.{Near}
 use Rattle.rounding.specs.Sums.{count_if}
 use Rattle.revenue.specs.declared.parts.Revenue.{Revenue}
@@ -17,8 +17,9 @@ returns c =
     let company = c.args.company in
     let added = c.locality_figures-added.ensures.value in
     let served = c.served.ensures in
-    let value : c.revenue.result ≡ recognised t costs.operating.0 costs.verification costs.central ls ps company = c.revenue.ensures ∙ (λ j. parts_at t costs.operating.0 costs.verification costs.central (added j) (served.regime j) (served.startup j)) in
+    let value : c.revenue.result ≡ recognised t costs.operating.0 costs.verification costs.central ls ps company = c.revenue.ensures.value ∙ (λ j. parts_at t costs.operating.0 costs.verification costs.central (added j) (served.regime j) (served.startup j)) in
     record {
       value = value;
       near = subst (λ (r : Revenue). Near (exact_revenue t costs.operating.0 costs.verification costs.central ls ps company) (pos (total r)) (12 * count_if (owns company) ls + 4)) (sym value) (near_revenue t costs.operating.0 costs.verification costs.central ls ps company);
+      small = omega (arith, c.revenue.ensures.small, c.locality_figures-added.ensures.small);
     }

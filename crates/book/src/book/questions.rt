@@ -1,0 +1,122 @@
+// The questions that the book answers. Asking alters nothing.
+ghost use Rattle.std.specs.Prelude.{◌≡◌, length};
+ghost use Rattle.std.specs.List.{slice_get};
+ghost use Rattle.limits.specs.Checked.{made_of};
+ghost use Rattle.book.specs.States.{state};
+ghost use Rattle.book.specs.Questions as asked;
+
+use super::Book;
+use crate::costs::costs_of;
+use crate::settlement::due;
+use calls::asking::asked_locality;
+use journal::entry::Entry;
+use journal::kept::Journal;
+use management::rule::Management;
+use revenue::parts::Revenue;
+use revenue::served::Served;
+use tables::rows::{LocalityRow, PointRow};
+use tables::service::Service;
+use units::amounts::Cents;
+use units::refusal::{Reason, Refusal};
+
+impl<J: Journal, M: Management> Book<J, M> {
+    /// The capital cost of a service of a locality.
+    pub fn capital_cost(
+        &self,
+        localities: &[LocalityRow],
+        place: u64,
+        service: Service,
+    ) -> Result<u64, Refusal>
+        ensures { result ≡ asked.capital_cost (state J.Journal M.Management self.now) localities.now place service }
+    {
+        let opened = self.opened.as_ref().ok_or(Reason::BookNotOpen.at(0))?;
+        let locality = asked_locality(localities, place)?;
+        Ok(locality.capital_cost(&opened.tariff, service))
+    }
+
+    /// A service's capital cost for each expected point of a locality.
+    pub fn unit_component(
+        &self,
+        localities: &[LocalityRow],
+        place: u64,
+        service: Service,
+    ) -> Result<u64, Refusal>
+        ensures { result ≡ asked.unit_component (state J.Journal M.Management self.now) localities.now place service }
+    {
+        let opened = self.opened.as_ref().ok_or(Reason::BookNotOpen.at(0))?;
+        let locality = asked_locality(localities, place)?;
+        locality.unit_component(&opened.tariff, service, place)
+    }
+
+    /// The points that a company served.
+    pub fn served(
+        &self,
+        localities: &[LocalityRow],
+        points: &[PointRow],
+        company: u64,
+    ) -> Result<Served, Refusal>
+        ensures { made_of (λ s. (s.regime.0, s.startup.0)) result ≡ asked.served (state J.Journal M.Management self.now) localities.now points.now company }
+    {
+        let opened = self.opened.as_ref().ok_or(Reason::BookNotOpen.at(0))?;
+        opened.served(localities, points, company)
+    }
+
+    /// The revenue that is recognised to a company, part by part.
+    pub fn revenue(
+        &self,
+        localities: &[LocalityRow],
+        points: &[PointRow],
+        company: u64,
+    ) -> Result<Revenue, Refusal>
+        ensures { result ≡ asked.revenue (state J.Journal M.Management self.now) localities.now points.now company }
+    {
+        let opened = self.opened.as_ref().ok_or(Reason::BookNotOpen.at(0))?;
+        let (tables, found) = opened.asked(localities, points, company)?;
+        let costs = costs_of(&self.rule, &found.terms);
+        Ok(tables.revenue(&opened.tariff, costs, company))
+    }
+
+    /// The balance that is due to a company: its settlement, less the balances booked before.
+    pub fn balance_due(
+        &self,
+        localities: &[LocalityRow],
+        points: &[PointRow],
+        company: u64,
+    ) -> Result<Cents, Refusal>
+        ensures { result ≡ asked.balance_due (state J.Journal M.Management self.now) localities.now points.now company }
+    {
+        let opened = self.opened.as_ref().ok_or(Reason::BookNotOpen.at(0))?;
+        let (tables, found) = opened.asked(localities, points, company)?;
+        let costs = costs_of(&self.rule, &found.terms);
+        Ok(due(&opened.tariff, costs, tables, company, &found))
+    }
+
+    /// The equalisation account: the opening sum and line 6 of the points, less every advance and balance.
+    pub fn account(&self, points: &[PointRow]) -> Result<Cents, Refusal>
+        ensures { result ≡ asked.account (state J.Journal M.Management self.now) points.now }
+    {
+        let opened = self.opened.as_ref().ok_or(Reason::BookNotOpen.at(0))?;
+        opened.account(points)
+    }
+
+    /// How many entries the journal holds.
+    pub fn journal_len(&self) -> usize
+        ensures { result ≡ length (J.Journal.entries self.now.journal) }
+    {
+        self.journal.len()
+    }
+
+    /// How many entries the journal can hold.
+    pub fn journal_capacity(&self) -> usize
+        ensures { result ≡ J.Journal.room self.now.journal }
+    {
+        self.journal.capacity()
+    }
+
+    /// The journal's entry at a place, from 0; none past the end.
+    pub fn entry(&self, place: usize) -> Option<Entry>
+        ensures { result ≡ slice_get (J.Journal.entries self.now.journal) place }
+    {
+        self.journal.get(place)
+    }
+}

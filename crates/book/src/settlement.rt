@@ -1,0 +1,43 @@
+// What a company's year comes to.
+ghost use Rattle.std.specs.Prelude.{◌≡◌, pos, neg_ℤ, ◌≤ℤ◌};
+ghost use Rattle.book.specs.Questions as asked;
+
+use company::record::Company;
+use revenue::costs::Costs;
+use revenue::lent::Tables;
+use tariff::table::Tariff;
+use units::amounts::Cents;
+
+// The settlement of the company at a place, in cents: recognised revenue, less lines 1 to 4 billed and advances.
+fn settlement(
+    tariff: &Tariff,
+    costs: Costs,
+    tables: Tables<'_>,
+    place: u64,
+    company: &Company,
+) -> i128
+    requires verification { costs.verification ≡ company.now.terms.figures.verification }
+    requires central { costs.central ≡ company.now.terms.figures.central }
+    ensures value { result ≡ asked.settlement tariff.now.figures costs.operating.0 tables.entry.localities.now tables.entry.points.now place company.now }
+    ensures small { (result ≤ℤ pos 20000000000000000) × (neg_ℤ (pos 20000000000000000) ≤ℤ result) }
+{
+    let revenue = tables.revenue(tariff, costs, place).total().0;
+    let billed = tables.sums(tariff, place).billed;
+    revenue - i128::from(billed) - company.advances().0
+}
+
+/// The balance that is due: the settlement, less the balances booked before.
+pub(crate) fn due(
+    tariff: &Tariff,
+    costs: Costs,
+    tables: Tables<'_>,
+    place: u64,
+    company: &Company,
+) -> Cents
+    requires verification { costs.verification ≡ company.now.terms.figures.verification }
+    requires central { costs.central ≡ company.now.terms.figures.central }
+    ensures { result ≡ asked.due tariff.now.figures costs.operating.0 tables.entry.localities.now tables.entry.points.now place company.now }
+{
+    let settlement = settlement(tariff, costs, tables, place, company);
+    Cents(settlement - i128::from(company.balances))
+}
