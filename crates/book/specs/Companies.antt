@@ -14,7 +14,7 @@ use Rattle.company.specs.Instalments.{instalment}
 use Rattle.calls.specs.Decisions.{registering, deciding}
 use Rattle.calls.specs.Steps.{next}
 use Rattle.book.specs.declared.opened.Opened.{Opened}
-use Rattle.book.specs.declared.order.Order.{Order}
+use Rattle.calls.specs.declared.call.Order.{Order}
 use Rattle.book.specs.declared.order.DrawnOrder.{DrawnOrder}
 use Rattle.book.specs.declared.order.Returned.{Returned}
 use Rattle.book.specs.States.{BookState, when_open, in_room, noted, with_company}

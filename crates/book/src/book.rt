@@ -5,6 +5,7 @@ use crate::opened::Opened;
 use journal::kept::Journal;
 use management::rule::Management;
 
+mod obeys;
 mod opening;
 mod orders;
 mod questions;

@@ -1,14 +1,6 @@
 // Orders for an instalment of a company's advance: drawn, then sent. Neither is copied, and neither is let go: each has to be spent by a call.
+use calls::call::Order;
 use units::refusal::Refusal;
-
-/// What an order says.
-#[derive(Clone, Copy, Debug, PartialEq, Eq)]
-pub struct Order {
-    /// The number of the book that drew it.
-    pub book: u64,
-    pub company: u64,
-    pub instalment: u8,
-}
 
 /// An order that is drawn: it can be cancelled or sent.
 pub struct DrawnOrder {

@@ -3,6 +3,7 @@
 
 pub mod asking;
 pub mod billing;
+pub mod call;
 pub mod deciding;
 pub mod enrolling;
 pub mod filing;

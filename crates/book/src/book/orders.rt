@@ -5,7 +5,8 @@ ghost use Rattle.book.specs.States.{state};
 ghost use Rattle.book.specs.Companies.{number_of, decided, drawing, cancelling, sending, bouncing, confirming, moved, confirmed_by, amount_paid, order_drawn, spends};
 
 use super::Book;
-use crate::order::{DrawnOrder, Order, Returned, SentOrder};
+use crate::order::{DrawnOrder, Returned, SentOrder};
+use calls::call::Order;
 use calls::deciding::deciding;
 use company::record::Event;
 use journal::entry::{Entry, Kind};

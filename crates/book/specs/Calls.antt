@@ -1,0 +1,105 @@
+-- What any call is answered, and what stands after it.
+use Rattle.std.specs.Prelude.{ℕ, List, Ok, Result, slice_index_or}
+use Rattle.units.specs.declared.refusal.Refusal.{Refusal}
+use Rattle.tables.specs.declared.rows.LocalityRow.{LocalityRow}
+use Rattle.tables.specs.declared.rows.PointRow.{PointRow}
+use Rattle.tables.specs.Blank.{no_locality, no_point}
+use Rattle.calls.specs.declared.call.Call.{Call}
+use Rattle.calls.specs.declared.call.Call.TheVariants as call
+use Rattle.calls.specs.declared.call.Question.{Question}
+use Rattle.calls.specs.declared.call.Question.TheVariants as question
+use Rattle.calls.specs.Steps.{next}
+use Rattle.book.specs.declared.answer.Granted.{Granted}
+use Rattle.book.specs.declared.answer.Granted.TheVariants as granted
+use Rattle.book.specs.States.{BookState}
+use Rattle.book.specs.Tables.{written, billed_row}
+use Rattle.book.specs.Companies.{registered, registered_by, number_of, drawing, cancelling, sending, confirming, bouncing, moved, confirmed_by, amount_paid}
+use Rattle.book.specs.Rows.{filing, enrolling, billing, bill_of, billed_by}
+use Rattle.book.specs.Questions as asked
+
+-- a book and the two tables that are lent to it
+pub record State : Type 0 where
+  pub book : BookState
+  pub localities : List LocalityRow
+  pub points : List PointRow
+
+-- what a granted answer is called
+abbrev pub grants : {X : Type 0} → Result X Refusal → (X → Granted) → Result Granted Refusal
+grants answer f = next answer (λ x. Ok (f x))
+
+abbrev pub drawn_answer : (number company k : ℕ) → Granted
+drawn_answer number company k = granted.Drawn (record { book = number; company = company; instalment = k })
+
+-- the row that a filing names
+abbrev pub filed_row : List LocalityRow → ℕ → LocalityRow
+filed_row filings i = slice_index_or filings i no_locality
+
+abbrev pub answer_asked : State → Question → Result Granted Refusal
+answer_asked s (question.CapitalCost locality service) = grants (asked.capital_cost s.book s.localities locality service) granted.CapitalCost
+answer_asked s (question.UnitComponent locality service) = grants (asked.unit_component s.book s.localities locality service) granted.UnitComponent
+answer_asked s (question.Served company) =
+    grants (asked.served s.book s.localities s.points company) (λ n. granted.Served (record { 0 = n.0 }) (record { 0 = n.1 }))
+answer_asked s (question.Revenue company) = grants (asked.revenue s.book s.localities s.points company) granted.Revenue
+answer_asked s (question.BalanceDue company) = grants (asked.balance_due s.book s.localities s.points company) granted.BalanceDue
+answer_asked s question.Account = grants (asked.account s.book s.points) granted.Account
+
+-- what a call is answered
+abbrev pub answer_to : List LocalityRow → State → Call → Result Granted Refusal
+answer_to filings s (call.Register company terms) = grants (registered s.book company terms) (λ t. granted.Registered)
+answer_to filings s (call.File locality i) = grants (filing s.book s.localities locality (filed_row filings i)) (λ l. granted.Filed)
+answer_to filings s (call.Enrol point e) = grants (enrolling s.book s.localities s.points point e) (λ p. granted.Enrolled)
+answer_to filings s (call.Bill point change) =
+    grants (bill_of (billing s.book s.localities s.points point change.volume change.days)) granted.Billed
+answer_to filings s (call.Draw company) =
+    grants (drawing s.book company) (λ d. drawn_answer (number_of s.book.opened) company d.1)
+answer_to filings s (call.Cancel o) = grants (cancelling s.book o) (λ d. granted.Cancelled)
+answer_to filings s (call.Send o) = grants (sending s.book o) (λ d. granted.Sent)
+answer_to filings s (call.Confirm o) = grants (confirming s.book o) (λ d. granted.Paid (amount_paid d))
+answer_to filings s (call.Bounce o) = grants (bouncing s.book o) (λ d. granted.Bounced)
+answer_to filings s (call.Ask q) = answer_asked s q
+
+-- the book after a call
+abbrev pub book_after : State → Call → BookState
+book_after s (call.Register company terms) = registered_by s.book company (registered s.book company terms)
+book_after s (call.File locality i) = s.book
+book_after s (call.Enrol point e) = s.book
+book_after s (call.Bill point change) =
+    billed_by s.book point change.volume change.days (billing s.book s.localities s.points point change.volume change.days)
+book_after s (call.Draw company) = moved s.book company (drawing s.book company)
+book_after s (call.Cancel o) = moved s.book o.company (cancelling s.book o)
+book_after s (call.Send o) = moved s.book o.company (sending s.book o)
+book_after s (call.Confirm o) = confirmed_by s.book o.company (confirming s.book o)
+book_after s (call.Bounce o) = moved s.book o.company (bouncing s.book o)
+book_after s (call.Ask q) = s.book
+
+-- the locality table after a call: filing alone writes it
+abbrev pub localities_after : List LocalityRow → State → Call → List LocalityRow
+localities_after filings s (call.Register company terms) = s.localities
+localities_after filings s (call.File locality i) = written (λ l. l) s.localities locality (filing s.book s.localities locality (filed_row filings i))
+localities_after filings s (call.Enrol point e) = s.localities
+localities_after filings s (call.Bill point change) = s.localities
+localities_after filings s (call.Draw company) = s.localities
+localities_after filings s (call.Cancel o) = s.localities
+localities_after filings s (call.Send o) = s.localities
+localities_after filings s (call.Confirm o) = s.localities
+localities_after filings s (call.Bounce o) = s.localities
+localities_after filings s (call.Ask q) = s.localities
+
+-- the point table after a call: enrolling and billing write it
+abbrev pub points_after : State → Call → List PointRow
+points_after s (call.Register company terms) = s.points
+points_after s (call.File locality i) = s.points
+points_after s (call.Enrol point e) = written (λ p. p) s.points point (enrolling s.book s.localities s.points point e)
+points_after s (call.Bill point change) =
+    written (billed_row (slice_index_or s.points point no_point)) s.points point (bill_of (billing s.book s.localities s.points point change.volume change.days))
+points_after s (call.Draw company) = s.points
+points_after s (call.Cancel o) = s.points
+points_after s (call.Send o) = s.points
+points_after s (call.Confirm o) = s.points
+points_after s (call.Bounce o) = s.points
+points_after s (call.Ask q) = s.points
+
+-- all that stands after a call
+abbrev pub after_call : List LocalityRow → State → Call → State
+after_call filings s c =
+    record { book = book_after s c; localities = localities_after filings s c; points = points_after s c }
