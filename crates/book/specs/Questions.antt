@@ -35,6 +35,10 @@ unit_component b localities place service =
 
 -- ---- A company
 
+-- how the company at a place stands
+abbrev pub company : BookState → (place : ℕ) → Result Company Refusal
+company b place = when_open b.opened (λ o. asked_company o.companies place)
+
 -- a figure of the company that is asked about: 4 for a table too long, then 4 and 5 for the company
 abbrev pub asked : {X : Type 0} → Opened → List LocalityRow → List PointRow → (company : ℕ) → (Company → X) → Result X Refusal
 asked o localities points company figure =
@@ -60,6 +64,11 @@ revenue_of t price localities points company c =
 abbrev pub revenue : BookState → List LocalityRow → List PointRow → (company : ℕ) → Result Revenue Refusal
 revenue b localities points company =
     when_open b.opened (λ o. asked o localities points company (λ c. revenue_of o.tariff.figures (price_for b.price c) localities points company c))
+
+-- lines 1 to 4 of the company's points
+abbrev pub lines_billed : BookState → List LocalityRow → List PointRow → (company : ℕ) → Result Cents Refusal
+lines_billed b localities points company =
+    when_open b.opened (λ o. asked o localities points company (λ c. record { 0 = pos (billed o.tariff.figures localities points company) }))
 
 -- recognised revenue at an operating price, less lines 1 to 4 billed and advances
 abbrev pub settlement : TariffFigures → (price : ℕ) → List LocalityRow → List PointRow → (company : ℕ) → Company → ℤ

@@ -12,6 +12,7 @@ mod questions;
 mod registering;
 mod rows;
 
+#[derive(Drop)]
 pub struct Book<J: Journal, M: Management> {
     journal: J,
     rule: M,
@@ -28,5 +29,17 @@ impl<J: Journal, M: Management> Book<J, M> {
             rule,
             opened: None,
         }
+    }
+
+    /// The journal and the rule again.
+    pub fn parts(self) -> (J, M)
+        ensures { (result.0 ≡ self.journal) × (result.1 ≡ self.rule) }
+    {
+        let Book {
+            journal,
+            rule,
+            opened: _,
+        } = self;
+        (journal, rule)
     }
 }

@@ -3,9 +3,9 @@ use Rattle.std.proofs.Common.{◌≡◌, ℕ, zero, suc, ◌+◌, ◌≤◌, Lis
 use Rattle.std.proofs.lemmas.Bool.{cases_lt}
 use Rattle.bookfile.specs.Slots.{placed, placed_all, and_then}
 
-module _ (s : List (Option ℕ)) (at : ℕ) (zs : List (Option ℤ)) (first : ℕ) where
+module _ (s : List (Option ℤ)) (at : ℕ) (zs : List (Option ℤ)) (first : ℕ) where
   -- one figure more
-  pub placed_more : (k : ℕ) (t : List (Option ℕ)) (o : Option (List (Option ℕ))) → placed_all s at zs first k ≡ Some t → placed t (at + k) (get_or zs (first + k) None) ≡ o → placed_all s at zs first (k + 1) ≡ o
+  pub placed_more : (k : ℕ) (t : List (Option ℤ)) (o : Option (List (Option ℤ))) → placed_all s at zs first k ≡ Some t → placed t (at + k) (get_or zs (first + k) None) ≡ o → placed_all s at zs first (k + 1) ≡ o
   placed_more k t o so_far now = rw add-one (ap (λ x. and_then x (λ u. placed u (at + k) (get_or zs (first + k) None))) so_far ∙ now)
 
   -- once a figure finds its slot taken, no more of them help

@@ -4,14 +4,14 @@ use Rattle.std.proofs.ByRecursion.{All-append}
 use Rattle.std.specs.Str.Lines.{IsFirstLine as Row}
 use Rattle.std.specs.List.{AllByRecursion}
 use Rattle.tables.specs.declared.rows.LocalityRow.{LocalityRow}
-use Rattle.bookfile.specs.declared.call.Call.{Call}
+use Rattle.calls.specs.declared.call.Call.{Call}
 use Rattle.bookfile.specs.declared.file.BookFile.{BookFile}
 use Rattle.bookfile.specs.declared.file.NumberedCall.{NumberedCall}
 use Rattle.bookfile.specs.declared.line.Line.{Line}
 use Rattle.bookfile.specs.declared.table.Table.{Table}
 use Rattle.bookfile.specs.Calls.{call_of}
 use Rattle.bookfile.specs.Files.{line_count, LineOf, Numbered, after_line, after_lines, line_filings, filings_of, called_by, line_calls, calls_from, calls_of, Sound, Step, Rows, RowsSay, Says}
-use Rattle.bookfile.specs.Filed.{filed, rule_of}
+use Rattle.bookfile.specs.Filed.{filed, rule_of, opening_of}
 use Rattle.bookfile.specs.Slots.{and_then}
 use Rattle.bookfile.specs.Tables.{empty_table}
 use Rattle.bookfile.proofs.LineCounts.{line_count_more}
@@ -63,8 +63,8 @@ at_start text rest t fs cs whole empty no_filing no_call =
       left = let e : line_count rest ≡ line_count text = ap line_count whole in omega arith;
     }
 
-pub at_end : (text rest : List ℕ) (read : ℕ) (book : BookFile) (t : Table) → SoFar text read rest t (vec_items book.filings) (vec_items book.calls) → length rest ≡ 0 → book.tariff ≡ filed t → book.rule ≡ rule_of t → Says text book
-at_end text rest read book t old none tariff rule =
+pub at_end : (text rest : List ℕ) (read : ℕ) (book : BookFile) (t : Table) → SoFar text read rest t (vec_items book.filings) (vec_items book.calls) → length rest ≡ 0 → book.tariff ≡ filed t → book.rule ≡ rule_of t → book.opening ≡ opening_of t → Says text book
+at_end text rest read book t old none tariff rule opening =
     let all = old.carries [] [] none refl in
     record {
       rows = all.0;
@@ -75,6 +75,7 @@ at_end text rest read book t old none tariff rule =
       puts = old.puts;
       tariff = tariff;
       rule = rule;
+      opening = opening;
       filings = old.filings;
       calls = old.calls;
       sound = old.sound;

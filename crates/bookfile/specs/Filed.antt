@@ -1,6 +1,5 @@
--- What tariff table and what management rule the given figures make: a figure that is not given is 0.
-use Rattle.std.specs.Prelude.{ℕ, ◌+◌, ◌*◌, map, None, ◌==◌, slice_index_or}
-use Rattle.std.specs.Option.{unwrap_or}
+-- What tariff table, what management rule and what opening the given figures make: a figure that is not given is 0.
+use Rattle.std.specs.Prelude.{ℕ, ◌+◌, ◌*◌, map, ℤ, Some, None, Option, ◌==◌, slice_index_or}
 use Rattle.std.specs.List.{range_with_len}
 use Rattle.units.specs.declared.amounts.PointPrice.{PointPrice}
 use Rattle.units.specs.declared.amounts.VolumePrice.{VolumePrice}
@@ -8,12 +7,14 @@ use Rattle.tariff.specs.declared.figures.Bracket.{Bracket}
 use Rattle.tariff.specs.declared.figures.Coefficient.{Coefficient}
 use Rattle.tariff.specs.declared.figures.Life.{Life}
 use Rattle.tariff.specs.declared.figures.TariffFigures.{TariffFigures}
+use Rattle.bookfile.specs.declared.opening.OpeningFigures.{OpeningFigures}
 use Rattle.bookfile.specs.declared.rule.RuleFigures.{RuleFigures}
 use Rattle.bookfile.specs.declared.table.Table.{Table}
+use Rattle.bookfile.specs.Numbers.{whole_of, change_of}
 
 -- the figure in a slot
 abbrev pub figure : Table → ℕ → ℕ
-figure t slot = unwrap_or (slice_index_or t.slots slot None) 0
+figure t slot = whole_of (slice_index_or t.slots slot None)
 
 abbrev pub price : Table → ℕ → ℕ → PointPrice
 price t from i = record { 0 = figure t (from + i) }
@@ -56,3 +57,11 @@ filed t =
 -- the management rule lies in the slots from 91 on: whether it is area-wide, then its prices
 abbrev pub rule_of : Table → RuleFigures
 rule_of t = record { wide = (figure t 91 == 1); prices = map (price t 92) (range_with_len 0 9) }
+
+abbrev pub capacity_of : Option ℤ → ℕ
+capacity_of None = 1048576
+capacity_of (Some z) = whole_of (Some z)
+
+-- the opening lies in the slots 101 and 102, its number and its sum, and the journal's capacity in 103: where it is not given, the most
+abbrev pub opening_of : Table → OpeningFigures
+opening_of t = record { number = figure t 101; sum = change_of (slice_index_or t.slots 102 None); capacity = capacity_of (slice_index_or t.slots 103 None) }

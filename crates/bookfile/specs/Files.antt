@@ -3,7 +3,7 @@ use Rattle.std.specs.Prelude.{◌≡◌, ℕ, ◌+◌, ◌<◌, ◌≤◌, max, 
 use Rattle.std.specs.Str.Lines.{IsFirstLine as Row}
 use Rattle.std.specs.List.{AllByRecursion}
 use Rattle.tables.specs.declared.rows.LocalityRow.{LocalityRow}
-use Rattle.bookfile.specs.declared.call.Call.{Call}
+use Rattle.calls.specs.declared.call.Call.{Call}
 use Rattle.bookfile.specs.declared.file.BookFile.{BookFile}
 use Rattle.bookfile.specs.declared.file.NumberedCall.{NumberedCall}
 use Rattle.bookfile.specs.declared.file.Unread.{Unread}
@@ -11,7 +11,7 @@ use Rattle.bookfile.specs.declared.file.Unread.TheVariants.{Malformed, Memory}
 use Rattle.bookfile.specs.declared.line.Line.{Line}
 use Rattle.bookfile.specs.declared.table.Table.{Table}
 use Rattle.bookfile.specs.Calls.{call_of}
-use Rattle.bookfile.specs.Filed.{filed, rule_of}
+use Rattle.bookfile.specs.Filed.{filed, rule_of, opening_of}
 use Rattle.bookfile.specs.Filings.{filing_of}
 use Rattle.bookfile.specs.Grammar.{Silent, Speaks}
 use Rattle.bookfile.specs.Slots.{and_then}
@@ -88,8 +88,8 @@ RowsSay n (row ∷ rows) said =
     (Silent row × RowsSay (n + 1) rows said) ⊎
     ((line : Line) × (more : List Numbered) × RowSays row line × (said ≡ record { number = n; line = line } ∷ more) × RowsSay (n + 1) rows more)
 
--- a book file says what its text does: the figures of its lines make the tariff table and the management rule, and
--- their filings and their calls follow each other
+-- a book file says what its text does: the figures of its lines make the tariff table, the management rule and the opening,
+-- and their filings and their calls follow each other
 pub record Says (text : List ℕ) (book : BookFile) : Type 0 where
   pub rows : List (List ℕ)
   pub cut : Rows text rows
@@ -99,6 +99,7 @@ pub record Says (text : List ℕ) (book : BookFile) : Type 0 where
   pub puts : after_lines empty_table lines ≡ Some table
   pub tariff : book.tariff ≡ filed table
   pub rule : book.rule ≡ rule_of table
+  pub opening : book.opening ≡ opening_of table
   pub filings : vec_items book.filings ≡ filings_of lines
   pub calls : vec_items book.calls ≡ calls_of lines
   pub sound : AllByRecursion (Sound text) (vec_items book.calls)

@@ -4,7 +4,7 @@ use Rattle.std.specs.List.{range_with_len}
 use Rattle.tables.specs.declared.rows.AssetRow.{AssetRow}
 use Rattle.tables.specs.declared.rows.LocalityRow.{LocalityRow}
 use Rattle.bookfile.specs.declared.statement.Statement.{Statement}
-use Rattle.bookfile.specs.declared.statement.Statement.TheVariants.{Tariff, Distribution, Metering, Bracket, Coefficient, Life, Management, Register, File, Enrol, Bill}
+use Rattle.bookfile.specs.declared.statement.Statement.TheVariants.{File}
 use Rattle.bookfile.specs.Numbers.{whole_at}
 
 -- an asset row, from 0, has five figures, after the six that are needed
@@ -30,14 +30,5 @@ locality_row zs =
     }
 
 abbrev pub filing_of : Statement → List (Option ℤ) → Option LocalityRow
-filing_of Tariff zs = None
-filing_of Distribution zs = None
-filing_of Metering zs = None
-filing_of Bracket zs = None
-filing_of Coefficient zs = None
-filing_of Life zs = None
-filing_of Management zs = None
-filing_of Register zs = None
 filing_of File zs = Some (locality_row zs)
-filing_of Enrol zs = None
-filing_of Bill zs = None
+filing_of other zs = None

@@ -8,7 +8,7 @@ use Rattle.std.specs.Str.{NoCharPasses, EmptyOrStartsWithPassing}
 use Rattle.bookfile.specs.declared.malformed.Malformed.{Malformed}
 use Rattle.bookfile.specs.declared.malformed.Malformed.TheVariants.{Keyword}
 use Rattle.bookfile.specs.declared.statement.Statement.{Statement}
-use Rattle.bookfile.specs.declared.statement.Statement.TheVariants.{Tariff, Distribution, Metering, Bracket, Coefficient, Life, Management, Register, File, Enrol, Bill}
+use Rattle.bookfile.specs.declared.statement.Statement.TheVariants.{Tariff, Distribution, Metering, Bracket, Coefficient, Life, Management, Opening, Journal, Register, File, Enrol, Bill, Draw, Cancel, Send, Confirm, Bounce, Cost, Component, Served, Revenue, Balance, Account}
 
 abbrev pub keyword_of : Statement → List ℕ
 keyword_of Tariff = codes "tariff"
@@ -18,10 +18,23 @@ keyword_of Bracket = codes "bracket"
 keyword_of Coefficient = codes "coefficient"
 keyword_of Life = codes "life"
 keyword_of Management = codes "management"
+keyword_of Opening = codes "opening"
+keyword_of Journal = codes "journal"
 keyword_of Register = codes "register"
 keyword_of File = codes "file"
 keyword_of Enrol = codes "enrol"
 keyword_of Bill = codes "bill"
+keyword_of Draw = codes "draw"
+keyword_of Cancel = codes "cancel"
+keyword_of Send = codes "send"
+keyword_of Confirm = codes "confirm"
+keyword_of Bounce = codes "bounce"
+keyword_of Cost = codes "cost"
+keyword_of Component = codes "component"
+keyword_of Served = codes "served"
+keyword_of Revenue = codes "revenue"
+keyword_of Balance = codes "balance"
+keyword_of Account = codes "account"
 
 -- a word is read as the statement that has it as its keyword, and no other word is read
 abbrev pub ReadsKeyword : List ℕ → Result Statement Malformed → Type 0
@@ -33,6 +46,10 @@ abbrev pub asset_names : ℕ → List (List ℕ)
 asset_names row =
     map (λ name. name ++ (48 + row) ∷ []) (codes "gross" ∷ codes "net" ∷ codes "works" ∷ codes "contributions" ∷ codes "remaining" ∷ [])
 
+-- the names of an order's figures
+abbrev pub order_names : List (List ℕ)
+order_names = codes "book" ∷ codes "company" ∷ codes "instalment" ∷ []
+
 -- the names of a statement's figures
 abbrev pub names_of : Statement → List (List ℕ)
 names_of Tariff = codes "days" ∷ codes "commercial" ∷ codes "gs" ∷ codes "ug1" ∷ codes "rate" ∷ codes "cou" ∷ codes "coa" ∷ codes "telcon" ∷ codes "avv" ∷ codes "ins" ∷ codes "rac" ∷ []
@@ -42,10 +59,23 @@ names_of Bracket = codes "end" ∷ codes "price" ∷ []
 names_of Coefficient = codes "area" ∷ codes "value" ∷ []
 names_of Life = codes "row" ∷ codes "years" ∷ []
 names_of Management = codes "areawide" ∷ codes "small1" ∷ codes "small2" ∷ codes "small3" ∷ codes "medium1" ∷ codes "medium2" ∷ codes "medium3" ∷ codes "large1" ∷ codes "large2" ∷ codes "large3" ∷ []
+names_of Opening = codes "number" ∷ codes "sum" ∷ []
+names_of Journal = codes "capacity" ∷ []
 names_of Register = codes "company" ∷ codes "advance" ∷ codes "instalments" ∷ codes "verification" ∷ codes "central" ∷ codes "points" ∷ codes "density" ∷ codes "award" ∷ []
 names_of File = codes "locality" ∷ codes "company" ∷ codes "state" ∷ codes "area" ∷ codes "expected" ∷ codes "smart" ∷ flat_map asset_names (range_with_len 1 8)
 names_of Enrol = codes "point" ∷ codes "locality" ∷ codes "class" ∷ codes "domestic" ∷ []
 names_of Bill = codes "point" ∷ codes "volume" ∷ codes "days" ∷ []
+names_of Draw = codes "company" ∷ []
+names_of Cancel = order_names
+names_of Send = order_names
+names_of Confirm = order_names
+names_of Bounce = order_names
+names_of Cost = codes "locality" ∷ codes "service" ∷ []
+names_of Component = codes "locality" ∷ codes "service" ∷ []
+names_of Served = codes "company" ∷ []
+names_of Revenue = codes "company" ∷ []
+names_of Balance = codes "company" ∷ []
+names_of Account = []
 
 -- a text writes a whole number in plain digits: without a plus, with a minus if it is negative, in 128 bits
 abbrev pub Plain : List ℕ → Type 0

@@ -1,7 +1,7 @@
 -- What table the statements make.
 use Rattle.std.specs.Prelude.{ℕ, ◌+◌, ◌-◌, ◌*◌, cond, List, replicate, ℤ, Some, None, Option, nat_lt}
 use Rattle.bookfile.specs.declared.statement.Statement.{Statement}
-use Rattle.bookfile.specs.declared.statement.Statement.TheVariants.{Tariff, Distribution, Metering, Bracket, Coefficient, Life, Management, Register, File, Enrol, Bill}
+use Rattle.bookfile.specs.declared.statement.Statement.TheVariants.{Tariff, Distribution, Metering, Bracket, Coefficient, Life, Management, Opening, Journal}
 use Rattle.bookfile.specs.declared.table.Table.{Table}
 use Rattle.bookfile.specs.declared.slots.Span.{Span}
 use Rattle.bookfile.specs.Numbers.{whole_at}
@@ -9,7 +9,7 @@ use Rattle.bookfile.specs.Slots.{and_then, placed_all}
 
 -- a table without figures
 abbrev pub empty_table : Table
-empty_table = record { slots = replicate 101 None; brackets = 0 }
+empty_table = record { slots = replicate 104 None; brackets = 0 }
 
 -- no figures
 abbrev pub no_span : ℕ → Span
@@ -29,10 +29,9 @@ span_of Coefficient zs k = Some (record { slot = 59 + 1 * (whole_at zs 0 - 1); f
 span_of Life zs k = Some (record { slot = 67 + 1 * (whole_at zs 0 - 1); first = 1; count = 1; brackets = k })
 span_of Bracket zs k = next_bracket k
 span_of Management zs k = Some (record { slot = 91; first = 0; count = 10; brackets = k })
-span_of Register zs k = Some (no_span k)
-span_of File zs k = Some (no_span k)
-span_of Enrol zs k = Some (no_span k)
-span_of Bill zs k = Some (no_span k)
+span_of Opening zs k = Some (record { slot = 101; first = 0; count = 2; brackets = k })
+span_of Journal zs k = Some (record { slot = 103; first = 0; count = 1; brackets = k })
+span_of call zs k = Some (no_span k)
 
 -- the table after a statement
 abbrev pub table_after : Statement → List (Option ℤ) → Table → Option Table

@@ -1,25 +1,14 @@
-// The calls of a book file: companies, localities, delivery points and their bills.
+// The calls of a book file, by the figures of their lines.
 ghost use Rattle.std.specs.Prelude.{◌≡◌};
-ghost use Rattle.bookfile.specs.Calls.{call_of, terms_of, enrolment_of, bill_change};
+ghost use Rattle.bookfile.specs.Calls.{call_of, terms_of, enrolment_of, bill_change, order_of, service_of, question_of};
 
 use crate::line::Line;
 use crate::statement::Statement;
+use calls::call::{Call, Order, Question};
 use calls::enrolling::Enrolment;
 use company::figures::TermsFigures;
+use tables::service::Service;
 use tariff::supply::Change;
-
-/// A call, with the file's numbers: it refuses what is beyond its limits.
-#[derive(Clone, Copy, Debug, PartialEq, Eq)]
-pub enum Call {
-    /// A company registers its terms.
-    Register { company: u64, terms: TermsFigures },
-    /// A locality is filed: the row is the one with this index among the file's filings. So a call stays small.
-    File { locality: u64, filing: usize },
-    /// A delivery point is enrolled in a locality.
-    Enrol { point: u64, enrolment: Enrolment },
-    /// A bill changes a point's volume and days of the year to date.
-    Bill { point: u64, change: Change },
-}
 
 /// The call that a line makes after so many filings, if it makes one.
 pub(crate) fn call_of(line: &Line, filings: usize) -> Option<Call>
@@ -43,6 +32,33 @@ pub(crate) fn call_of(line: &Line, filings: usize) -> Option<Call>
             point: place,
             change: bill_change(line),
         }),
+        Statement::Draw => Some(Call::Draw { company: place }),
+        Statement::Cancel => Some(Call::Cancel(order_of(line))),
+        Statement::Send => Some(Call::Send(order_of(line))),
+        Statement::Confirm => Some(Call::Confirm(order_of(line))),
+        Statement::Bounce => Some(Call::Bounce(order_of(line))),
+        _ => question_of(line).map(|question| Call::Ask(question)),
+    }
+}
+
+// The question that a line asks, if it asks one.
+fn question_of(line: &Line) -> Option<Question>
+    ensures { result ≡ question_of line.now.statement line.now.figures }
+{
+    let place = line.whole(0);
+    match line.statement {
+        Statement::Cost => Some(Question::CapitalCost {
+            locality: place,
+            service: service_of(line),
+        }),
+        Statement::Component => Some(Question::UnitComponent {
+            locality: place,
+            service: service_of(line),
+        }),
+        Statement::Served => Some(Question::Served { company: place }),
+        Statement::Revenue => Some(Question::Revenue { company: place }),
+        Statement::Balance => Some(Question::BalanceDue { company: place }),
+        Statement::Account => Some(Question::Account),
         _ => None,
     }
 }
@@ -77,5 +93,25 @@ fn bill_change(line: &Line) -> Change
     Change {
         volume: line.change(1),
         days: line.change(2),
+    }
+}
+
+fn order_of(line: &Line) -> Order
+    ensures { result ≡ order_of line.now.figures }
+{
+    Order {
+        book: line.whole(0),
+        company: line.whole(1),
+        instalment: line.whole(2).min(255) as u8,
+    }
+}
+
+fn service_of(line: &Line) -> Service
+    ensures { result ≡ service_of line.now.figures }
+{
+    if line.whole(1) == 2 {
+        Service::Metering
+    } else {
+        Service::Distribution
     }
 }

@@ -1,14 +1,16 @@
-// A book file as a whole: its tariff table, its management rule and its calls, or its first malformed line.
+// A book file as a whole: its tariff table, its management rule, its opening and its calls, or its first malformed line.
 ghost use Rattle.std.specs.Prelude.{◌≡◌, ◌++◌, length, IfOk, IfErr, MatchResult, OnOk};
 ghost use Rattle.bookfile.specs.declared.file.Unread.TheVariants.{Memory};
 ghost use Rattle.bookfile.specs.Files.{Says, Placed, Step, line_filings, line_calls};
 
-use crate::call::{Call, call_of};
+use crate::call::call_of;
 use crate::filing::filing_of;
 use crate::line::Line;
 use crate::malformed::Malformed;
+use crate::opening::OpeningFigures;
 use crate::rule::RuleFigures;
 use crate::table::Table;
+use calls::call::Call;
 use std::alloc::{AllocError, AllocFailed, Global};
 use std::error::Error;
 use std::fmt;
@@ -22,12 +24,13 @@ pub struct NumberedCall {
     pub call: Call,
 }
 
-/// What a book file says: the tariff table and the management rule as they are filed, the rows of the filings and the
-/// calls in their order.
+/// What a book file says: the tariff table, the management rule and the opening as they are filed, the rows of the filings
+/// and the calls in their order.
 #[derive(Debug, Drop)]
 pub struct BookFile {
     pub tariff: TariffFigures,
     pub rule: RuleFigures,
+    pub opening: OpeningFigures,
     pub filings: Vec<LocalityRow>,
     pub calls: Vec<NumberedCall>,
 }
@@ -82,15 +85,17 @@ pub fn read(heap: Global, text: &str) -> Result<BookFile, Unread>
     }
     let tariff = table.filed();
     let rule = table.rule();
+    let opening = table.opening();
     Ok(BookFile {
         tariff,
         rule,
+        opening,
         filings,
         calls,
     })
 }
 
-// Reads a line: what it says of the tariff table and of the management rule goes into the table.
+// Reads a line: what it says of the tariff table, the management rule and the opening goes into the table.
 fn read_line(table: &mut Table, row: &str) -> Result<Option<Line>, Malformed>
     ensures { IfOk result (Step row.now table.old table.new) }
 {

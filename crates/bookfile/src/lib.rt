@@ -7,6 +7,8 @@ mod filing;
 mod line;
 pub mod malformed;
 pub mod naming;
+mod numbers;
+pub mod opening;
 pub mod rule;
 mod slots;
 pub mod statement;

@@ -24,7 +24,7 @@ impl fmt::Display for Malformed {
     fn fmt<W: fmt::Write>(&self, f: &mut fmt::Formatter<W>) -> fmt::Result {
         match *self {
             Malformed::Keyword => f.write_str(
-                "expected tariff, distribution, metering, bracket, coefficient, life, management, register, file, enrol or bill as the first word",
+                "expected a statement's keyword as the first word, such as tariff, register, file, enrol or bill",
             ),
             Malformed::Word => f.write_str(
                 "expected figures as name=number, with blanks only between them",

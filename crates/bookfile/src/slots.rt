@@ -18,7 +18,7 @@ pub struct Span {
 }
 
 // Puts a figure to a slot, which takes one only; a figure that is not given leaves it.
-fn put(slots: &mut [Option<u64>], at: usize, line: &Line, i: usize) -> Result<(), Malformed>
+fn put(slots: &mut [Option<i128>], at: usize, line: &Line, i: usize) -> Result<(), Malformed>
     requires slot { at < length slots.old }
     requires figure { i < MOST_FIGURES }
     ensures { Puts (placed slots.old at (slice_index_or line.now.figures i None)) result slots.new }
@@ -32,12 +32,12 @@ fn put(slots: &mut [Option<u64>], at: usize, line: &Line, i: usize) -> Result<()
             place: i,
         }));
     }
-    slots[at] = Some(line.whole(i));
+    slots[at] = line.figures[i];
     Ok(())
 }
 
 /// Puts the figures of a span of a line to the span's slots.
-pub(crate) fn put_all(slots: &mut [Option<u64>], line: &Line, span: Span) -> Result<(), Malformed>
+pub(crate) fn put_all(slots: &mut [Option<i128>], line: &Line, span: Span) -> Result<(), Malformed>
     requires room { span.slot + span.count ≤ length slots.old }
     requires figures { span.first + span.count ≤ MOST_FIGURES }
     ensures { Puts (placed_all slots.old span.slot line.now.figures span.first span.count) result slots.new }

@@ -17,10 +17,23 @@ pub enum Statement {
     Coefficient,
     Life,
     Management,
+    Opening,
+    Journal,
     Register,
     File,
     Enrol,
     Bill,
+    Draw,
+    Cancel,
+    Send,
+    Confirm,
+    Bounce,
+    Cost,
+    Component,
+    Served,
+    Revenue,
+    Balance,
+    Account,
 }
 
 /// What number a figure may be.
@@ -28,10 +41,14 @@ pub enum Statement {
 pub enum Kind {
     /// A whole number of 64 bits.
     Whole,
+    /// A whole number of 8 bits.
+    Byte,
     /// A whole number of 64 bits with its sign.
     Change,
     /// An area or an asset row.
     OneOfEight,
+    /// A service: distribution or metering.
+    OneOrTwo,
     /// A yes or a no.
     ZeroOrOne,
 }
@@ -72,6 +89,10 @@ static MANAGEMENT: [&str; 10] = [
     "areawide", "small1", "small2", "small3", "medium1", "medium2", "medium3", "large1", "large2",
     "large3",
 ];
+
+static OPENING: [&str; 2] = ["number", "sum"];
+
+static JOURNAL: [&str; 1] = ["capacity"];
 
 static REGISTER: [&str; 8] = [
     "company",
@@ -137,6 +158,14 @@ static ENROL: [&str; 4] = ["point", "locality", "class", "domestic"];
 
 static BILL: [&str; 3] = ["point", "volume", "days"];
 
+static ORDER: [&str; 3] = ["book", "company", "instalment"];
+
+static SERVICE: [&str; 2] = ["locality", "service"];
+
+static COMPANY: [&str; 1] = ["company"];
+
+static NOTHING: [&str; 0] = [];
+
 impl FromStr for Statement {
     type Err = Malformed;
 
@@ -151,10 +180,23 @@ impl FromStr for Statement {
             "coefficient" => Ok(Statement::Coefficient),
             "life" => Ok(Statement::Life),
             "management" => Ok(Statement::Management),
+            "opening" => Ok(Statement::Opening),
+            "journal" => Ok(Statement::Journal),
             "register" => Ok(Statement::Register),
             "file" => Ok(Statement::File),
             "enrol" => Ok(Statement::Enrol),
             "bill" => Ok(Statement::Bill),
+            "draw" => Ok(Statement::Draw),
+            "cancel" => Ok(Statement::Cancel),
+            "send" => Ok(Statement::Send),
+            "confirm" => Ok(Statement::Confirm),
+            "bounce" => Ok(Statement::Bounce),
+            "cost" => Ok(Statement::Cost),
+            "component" => Ok(Statement::Component),
+            "served" => Ok(Statement::Served),
+            "revenue" => Ok(Statement::Revenue),
+            "balance" => Ok(Statement::Balance),
+            "account" => Ok(Statement::Account),
             _ => Err(Malformed::Keyword),
         }
     }
@@ -174,10 +216,16 @@ impl Statement {
             Statement::Coefficient => &COEFFICIENT,
             Statement::Life => &LIFE,
             Statement::Management => &MANAGEMENT,
+            Statement::Opening => &OPENING,
+            Statement::Journal => &JOURNAL,
             Statement::Register => &REGISTER,
             Statement::File => &FILE,
             Statement::Enrol => &ENROL,
             Statement::Bill => &BILL,
+            Statement::Draw | Statement::Served | Statement::Revenue | Statement::Balance => &COMPANY,
+            Statement::Cancel | Statement::Send | Statement::Confirm | Statement::Bounce => &ORDER,
+            Statement::Cost | Statement::Component => &SERVICE,
+            Statement::Account => &NOTHING,
         }
     }
 
@@ -195,12 +243,25 @@ impl Statement {
             Statement::Life => "life row=3 years=20",
             Statement::Management =>
                 "management areawide=0 small1=31000000 small2=27000000 small3=24000000 medium1=26000000 medium2=23000000 medium3=21000000 large1=22000000 large2=20000000 large3=18000000",
+            Statement::Opening => "opening number=7 sum=0",
+            Statement::Journal => "journal capacity=1048576",
             Statement::Register =>
                 "register company=0 advance=100000 instalments=3 verification=0 central=1000 points=100 density=1 award=1",
             Statement::File =>
                 "file locality=0 company=0 state=1 area=1 expected=100 smart=40 gross3=1000000 net3=600000",
             Statement::Enrol => "enrol point=0 locality=0 class=1 domestic=0",
             Statement::Bill => "bill point=0 volume=500 days=73",
+            Statement::Draw => "draw company=0",
+            Statement::Cancel => "cancel book=7 company=0 instalment=1",
+            Statement::Send => "send book=7 company=0 instalment=1",
+            Statement::Confirm => "confirm book=7 company=0 instalment=1",
+            Statement::Bounce => "bounce book=7 company=0 instalment=1",
+            Statement::Cost => "cost locality=0 service=1",
+            Statement::Component => "component locality=0 service=1",
+            Statement::Served => "served company=0",
+            Statement::Revenue => "revenue company=0",
+            Statement::Balance => "balance company=0",
+            Statement::Account => "account",
         }
     }
 }
@@ -212,25 +273,46 @@ impl Field {
     {
         match (self.statement, self.place) {
             (Statement::Management, 0) => Kind::ZeroOrOne,
-            (Statement::Register, 1) => Kind::Change,
+            (Statement::Opening | Statement::Register, 1) => Kind::Change,
             (Statement::Bill, place) if place != 0 => Kind::Change,
             (Statement::Distribution | Statement::Metering, 0) => Kind::OneOfEight,
             (Statement::Coefficient | Statement::Life, 0) => Kind::OneOfEight,
+            (
+                Statement::Cancel | Statement::Send | Statement::Confirm | Statement::Bounce,
+                2,
+            ) => Kind::Byte,
+            (Statement::Cost | Statement::Component, 1) => Kind::OneOrTwo,
             _ => Kind::Whole,
         }
     }
 
-    /// Whether the figure has to be given: all but those of the tariff, of the management rule and of asset rows do.
+    /// Whether the figure has to be given: all but those of the tariff, of the management rule, of the opening and of asset rows do.
     pub(crate) fn is_needed(self) -> bool
         ensures { result ≡ needed self.statement self.place }
     {
         match self.statement {
-            Statement::Tariff | Statement::Management => false,
+            Statement::Tariff
+            | Statement::Management
+            | Statement::Opening
+            | Statement::Account => false,
             Statement::Distribution | Statement::Metering | Statement::Enrol => self.place < 4,
-            Statement::Bracket | Statement::Coefficient | Statement::Life => self.place < 2,
+            Statement::Bracket
+            | Statement::Coefficient
+            | Statement::Life
+            | Statement::Cost
+            | Statement::Component => self.place < 2,
             Statement::Register => self.place < 8,
             Statement::File => self.place < 6,
-            Statement::Bill => self.place < 3,
+            Statement::Bill
+            | Statement::Cancel
+            | Statement::Send
+            | Statement::Confirm
+            | Statement::Bounce => self.place < 3,
+            Statement::Journal
+            | Statement::Draw
+            | Statement::Served
+            | Statement::Revenue
+            | Statement::Balance => self.place < 1,
         }
     }
 }
@@ -254,8 +336,10 @@ impl Kind {
     {
         match self {
             Kind::Whole => (0, u64::MAX as i128),
+            Kind::Byte => (0, 255),
             Kind::Change => (i64::MIN as i128, i64::MAX as i128),
             Kind::OneOfEight => (1, 8),
+            Kind::OneOrTwo => (1, 2),
             Kind::ZeroOrOne => (0, 1),
         }
     }

@@ -1,7 +1,8 @@
-// What a book file's calls answer and what its year comes to, in print.
+// What the calls of a book file answer and what its year comes to, in print.
 #![tactic(auto)]
 
-pub mod answers;
-pub mod bill;
+pub mod answer;
+mod bill;
+mod call;
 pub mod refused;
 pub mod year;

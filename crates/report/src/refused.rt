@@ -11,15 +11,18 @@ pub struct Refused {
 }
 
 impl Refused {
-    // The figure with the refusal's number. Before its figures a statement names one place, and a filing or enrolling a second one.
+    // The figure with the refusal's number. It is counted from 1 without the places that a statement names before its figures: none in an
+    // opening, two in a filing and an enrolling, and else one.
     fn field(&self) -> Field {
-        let places = match self.statement {
-            Statement::File | Statement::Enrol => 1,
-            _ => 0,
+        let figure = self.refusal.place;
+        let place = match self.statement {
+            Statement::Opening => figure.saturating_sub(1),
+            Statement::File | Statement::Enrol => figure.saturating_add(1),
+            _ => figure,
         };
         Field {
             statement: self.statement,
-            place: self.refusal.place.saturating_add(places) as usize,
+            place: place as usize,
         }
     }
 }

@@ -1,13 +1,18 @@
 // What a year comes to, in print: the costs of each locality, and the revenue that is recognised to each company.
-use crate::answers::state_words;
-use revenue::costs::Costs;
-use revenue::lent::Tables;
+use crate::answer::state_words;
+use book::book::Book;
+use company::record::Company;
+use journal::kept::Journal;
+use management::rule::Management;
 use revenue::parts::Revenue;
+use revenue::served::Served;
 use std::fmt;
 use tables::locality::Locality;
+use tables::rows::{LocalityRow, PointRow};
 use tables::service::Service;
 use tariff::table::Tariff;
 use units::amounts::Cents;
+use units::refusal::Refusal;
 
 /// A locality's capital costs, what a locality in regime adds to them, and its unit components.
 pub fn write_locality<W: fmt::Write>(
@@ -51,24 +56,70 @@ pub fn write_locality<W: fmt::Write>(
     Ok(())
 }
 
-/// The points that a company served, and the revenue that is recognised to it, part by part.
-pub fn write_company<W: fmt::Write>(
-    out: &mut W,
-    tariff: &Tariff,
-    tables: Tables<'_>,
-    company: u64,
-    costs: Costs,
-) -> fmt::Result {
-    let served = tables.served(tariff, company);
-    writeln!(
-        out,
-        "\ncompany {company}: {} points served in regime, {} in start-up",
-        served.regime, served.startup
-    )?;
-    write_revenue(out, &tables.revenue(tariff, costs, company))
+/// What a company's year comes to.
+#[derive(Clone, Copy, Debug, PartialEq, Eq)]
+struct CompanyYear {
+    company: Company,
+    served: Served,
+    revenue: Revenue,
+    billed: Cents,
+    due: Cents,
 }
 
-fn write_revenue<W: fmt::Write>(out: &mut W, revenue: &Revenue) -> fmt::Result {
+impl CompanyYear {
+    fn of<J: Journal, M: Management>(
+        book: &Book<J, M>,
+        localities: &[LocalityRow],
+        points: &[PointRow],
+        place: u64,
+    ) -> Result<CompanyYear, Refusal> {
+        Ok(CompanyYear {
+            company: book.company(place)?,
+            served: book.served(localities, points, place)?,
+            revenue: book.revenue(localities, points, place)?,
+            billed: book.billed(localities, points, place)?,
+            due: book.balance_due(localities, points, place)?,
+        })
+    }
+}
+
+/// The points that a company served, the revenue that is recognised to it, part by part, and the balance that is due; nothing where no company is
+/// registered.
+pub fn write_company<W: fmt::Write, J: Journal, M: Management>(
+    out: &mut W,
+    book: &Book<J, M>,
+    localities: &[LocalityRow],
+    points: &[PointRow],
+    place: u64,
+) -> fmt::Result {
+    let Ok(year) = CompanyYear::of(book, localities, points, place) else {
+        return Ok(());
+    };
+    writeln!(
+        out,
+        "\ncompany {place}: {} points served in regime, {} in start-up",
+        year.served.regime, year.served.startup
+    )?;
+    write_revenue(out, &year.revenue)?;
+    write_amount(out, "less lines 1 to 4 billed", year.billed)?;
+    write_amount(out, "less advances", year.company.advances())?;
+    write_amount(out, "balance due", year.due)
+}
+
+/// The equalisation account.
+pub fn write_account<W: fmt::Write, J: Journal, M: Management>(
+    out: &mut W,
+    book: &Book<J, M>,
+    points: &[PointRow],
+) -> fmt::Result {
+    match book.account(points) {
+        Ok(Cents(account)) => writeln!(out, "\nequalisation account: {account} cents"),
+        Err(refusal) => writeln!(out, "\nequalisation account: {refusal}"),
+    }
+}
+
+/// The parts of recognised revenue, and their sum.
+pub(crate) fn write_revenue<W: fmt::Write>(out: &mut W, revenue: &Revenue) -> fmt::Result {
     for (name, cents) in [
         ("localities", revenue.localities),
         ("operating", revenue.operating),
@@ -80,8 +131,12 @@ fn write_revenue<W: fmt::Write>(out: &mut W, revenue: &Revenue) -> fmt::Result {
     ] {
         write_cents(out, name, cents)?;
     }
-    let Cents(total) = revenue.total();
-    writeln!(out, "  {:<31}{total:>20} cents", "recognised revenue")
+    write_amount(out, "recognised revenue", revenue.total())
+}
+
+fn write_amount<W: fmt::Write>(out: &mut W, name: &str, amount: Cents) -> fmt::Result {
+    let Cents(cents) = amount;
+    writeln!(out, "  {name:<31}{cents:>20} cents")
 }
 
 fn write_cents<W: fmt::Write>(out: &mut W, name: &str, cents: u64) -> fmt::Result {

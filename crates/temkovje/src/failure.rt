@@ -21,6 +21,8 @@ pub enum Failure {
     Tariff { refusal: Refusal, brackets: usize },
     /// The management rule is refused.
     Rule(Refusal),
+    /// The opening is refused.
+    Opening(Refusal),
     Memory,
 }
 
@@ -68,13 +70,19 @@ impl fmt::Display for Failure {
                 }
                 Ok(())
             }
-            Failure::Rule(refusal) => {
-                let statement = Statement::Management;
-                write!(f, "{}", Refused { statement, refusal })
-            }
+            Failure::Rule(refusal) => write_refused(f, Statement::Management, refusal),
+            Failure::Opening(refusal) => write_refused(f, Statement::Opening, refusal),
             Failure::Memory => write!(f, "there is not enough memory"),
         }
     }
 }
 
 impl Error for Failure {}
+
+fn write_refused<W: fmt::Write>(
+    f: &mut fmt::Formatter<W>,
+    statement: Statement,
+    refusal: Refusal,
+) -> fmt::Result {
+    write!(f, "{}", Refused { statement, refusal })
+}

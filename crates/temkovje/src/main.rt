@@ -3,7 +3,6 @@
 
 mod failure;
 mod run;
-mod year_tables;
 
 use failure::Failure;
 use run::run_book;

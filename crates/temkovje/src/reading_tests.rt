@@ -1,14 +1,14 @@
 // What the reader says of example files.
-use bookfile::call::Call;
 use bookfile::file::{BookFile, NumberedCall, read};
+use calls::call::{Call, Order};
 use std::alloc::Global;
 use std::test::Fail;
 
 // A malformed text, and what is said of it.
-static MALFORMED: [(&str, &str); 24] = [
+static MALFORMED: [(&str, &str); 30] = [
     (
         "\n\nbil point=0 volume=500 days=73",
-        "line 3: expected tariff, distribution, metering, bracket, coefficient, life, management, register, file, enrol or bill as the first word",
+        "line 3: expected a statement's keyword as the first word, such as tariff, register, file, enrol or bill",
     ),
     (
         "tariff days=365\nbill point=0 500 days=73 # a word without its name",
@@ -102,6 +102,27 @@ static MALFORMED: [(&str, &str); 24] = [
         "enrol point=0 locality=0 class=1 domestic=0\nbill point=0 volume=1",
         "line 2: expected the figure days",
     ),
+    (
+        "opening number=1\nopening number=1",
+        "line 2: expected the figure number only once",
+    ),
+    (
+        "cancel book=1 company=0",
+        "line 1: expected the figure instalment",
+    ),
+    (
+        "confirm book=1 company=0 instalment=256",
+        "line 1: expected a plain whole number from 0 to 255 for instalment",
+    ),
+    (
+        "cost locality=0 service=3",
+        "line 1: expected a plain whole number from 1 to 2 for service",
+    ),
+    ("journal", "line 1: expected the figure capacity"),
+    (
+        "account company=0",
+        "line 1: expected only the figures of account",
+    ),
 ];
 
 #[test]
@@ -123,7 +144,11 @@ register award=7 company=15 advance=-9223372036854775808 instalments=1 verificat
 file smart=6 locality=300 company=1 state=2 area=3 expected=5 gross1=7 works2=8 remaining8=9
 enrol point=65536 locality=8 class=18446744073709551615 domestic=2
 file locality=1 company=0 state=0 area=0 expected=0 smart=1
-bill point=65535 volume=-9223372036854775808 days=9223372036854775807\nbill days=-0 volume=007 point=0";
+bill point=65535 volume=-9223372036854775808 days=9223372036854775807\nbill days=-0 volume=007 point=0
+opening sum=-5 number=65536\njournal capacity=3
+draw company=17\ncancel company=2 book=1 instalment=255\nsend company=2 book=1 instalment=3
+confirm company=2 book=1 instalment=4\nbounce company=2 book=18446744073709551615 instalment=0
+cost locality=5 service=2\ncomponent service=1 locality=6\nserved company=7\nrevenue company=8\nbalance company=9\naccount";
 
 fn good(heap: Global) -> Result<BookFile, Fail> {
     Ok(read(heap, GOOD).ok().ok_or("malformed")?)
@@ -144,6 +169,17 @@ fn calls_keep_their_lines(rt: HostRuntime) -> Result<(), Fail> {
 13: file 1 by filing 1
 14: bill 65535: -9223372036854775808 9223372036854775807
 15: bill 0: 7 0
+18: draw 17
+19: cancel 1 2 255
+20: send 1 2 3
+21: confirm 1 2 4
+22: bounce 18446744073709551615 2 0
+23: CapitalCost { locality: 5, service: Metering }
+24: UnitComponent { locality: 6, service: Distribution }
+25: Served { company: 7 }
+26: Revenue { company: 8 }
+27: BalanceDue { company: 9 }
+28: Account
 "
     );
     Ok(())
@@ -170,7 +206,20 @@ fn listed(heap: Global, numbered: NumberedCall) -> Result<String, Fail> {
             "{line}: bill {point}: {} {}\n",
             change.volume, change.days
         )?,
+        Call::Draw { company } => format!(in heap; "{line}: draw {company}\n")?,
+        Call::Cancel(order) => listed_order(heap, line, "cancel", order)?,
+        Call::Send(order) => listed_order(heap, line, "send", order)?,
+        Call::Confirm(order) => listed_order(heap, line, "confirm", order)?,
+        Call::Bounce(order) => listed_order(heap, line, "bounce", order)?,
+        Call::Ask(question) => format!(in heap; "{line}: {question:?}\n")?,
     })
+}
+
+fn listed_order(heap: Global, line: usize, what: &str, order: Order) -> Result<String, Fail> {
+    Ok(format!(in heap;
+        "{line}: {what} {} {} {}\n",
+        order.book, order.company, order.instalment
+    )?)
 }
 
 #[test]
@@ -201,6 +250,18 @@ fn figures_reach_the_rule(rt: HostRuntime) -> Result<(), Fail> {
         (rule.wide, rule.prices[0].0, rule.prices[8].0),
         (true, 0, 4)
     );
+    Ok(())
+}
+
+#[test]
+fn figures_reach_the_opening(rt: HostRuntime) -> Result<(), Fail> {
+    let opening = good(rt.alloc())?.opening;
+    assert_eq!(rt;
+        (opening.number, opening.sum, opening.capacity),
+        (65536, -5, 3)
+    );
+    let other = read(rt.alloc(), "").ok().ok_or("malformed")?.opening;
+    assert_eq!(rt; (other.number, other.sum, other.capacity), (0, 0, 1048576));
     Ok(())
 }
 

@@ -1,41 +1,89 @@
 // A book file run from its text to what it prints.
 use crate::failure::Failure;
-use crate::year_tables::YearTables;
+use book::book::Book;
 use bookfile::file::{BookFile, read};
+use journal::entry::Entry;
+use journal::kept::Journal;
+use journal::lent::LentJournal;
 use management::area_wide::AreaWide;
 use management::municipal::Municipal;
 use management::rule::Management;
+use report::answer::write_answer;
+use report::year::{write_account, write_company, write_locality};
 use std::alloc::Global;
+use std::fmt;
+use tables::lookup::record_at;
+use tables::rows::{LocalityRow, MOST_LOCALITIES, MOST_POINTS, PointRow, Row};
 use tariff::table::Tariff;
 use units::amounts::PointPrice;
 use units::refusal::Refusal;
 
-/// Reads a book file and runs its calls; a file that is malformed, or whose tariff table or management rule is refused, runs none.
+/// Reads a book file and runs its calls; a file that is malformed, or whose tariff table, management rule or opening is refused, runs none.
 pub fn run_book(heap: Global, text: &str) -> Result<String, Failure> {
-    let book = read(heap, text)?;
-    let brackets = book.tariff.count;
-    let tariff = Tariff::try_from(book.tariff).map_err(|refusal| Failure::Tariff {
+    let file = read(heap, text)?;
+    let brackets = file.tariff.count;
+    let tariff = Tariff::try_from(file.tariff).map_err(|refusal| Failure::Tariff {
         refusal,
         brackets,
     })?;
-    if book.rule.wide {
-        run_by::<AreaWide>(heap, &tariff, &book)
+    if file.rule.wide {
+        run_by::<AreaWide>(heap, &tariff, &file)
     } else {
-        run_by::<Municipal>(heap, &tariff, &book)
+        run_by::<Municipal>(heap, &tariff, &file)
     }
 }
 
+// Runs the file's calls by a management rule, over a journal with room for an entry of each.
 fn run_by<M: Management + TryFrom<[PointPrice; 9], Error = Refusal> + Drop>(
     heap: Global,
     tariff: &Tariff,
-    book: &BookFile,
+    file: &BookFile,
 ) -> Result<String, Failure> {
-    let rule = M::try_from(book.rule.prices).map_err(|refusal| Failure::Rule(refusal))?;
-    let mut tables = YearTables::blank(heap)?;
+    let rule = M::try_from(file.rule.prices).map_err(|refusal| Failure::Rule(refusal))?;
+    let room = file.calls.len().min(file.opening.capacity as usize);
+    let mut entries = vec![in heap; Entry::default(); room]?;
+    let mut book = Book::new(LentJournal::new(entries.as_mut_slice()), rule);
+    run_calls(heap, tariff, file, &mut book)
+}
+
+fn run_calls<J: Journal, M: Management>(
+    heap: Global,
+    tariff: &Tariff,
+    file: &BookFile,
+    book: &mut Book<J, M>,
+) -> Result<String, Failure> {
+    let mut localities = vec![in heap; LocalityRow::blank(); MOST_LOCALITIES]?;
+    let mut points = vec![in heap; PointRow::blank(); MOST_POINTS]?;
+    let localities = localities.as_mut_slice();
+    let points = points.as_mut_slice();
+    let opening = file.opening;
+    book.open(tariff, opening.number, opening.sum, localities, points)
+        .map_err(|refusal| Failure::Opening(refusal))?;
+    let filings = file.filings.as_slice();
     let mut out = String::new(heap);
-    for numbered in book.calls.iter() {
-        tables.answer(&mut out, tariff, book.filings.as_slice(), numbered.call)?;
+    for numbered in file.calls.iter() {
+        let answer = book.obey(localities, points, filings, numbered.call);
+        write_answer(&mut out, filings, numbered.call, answer)?;
     }
-    tables.write_year(&mut out, tariff, &rule)?;
+    write_year(&mut out, tariff, book, localities, points)?;
     Ok(out)
+}
+
+// What the year comes to: every locality that stands, every company that is registered, and the account.
+fn write_year<W: fmt::Write, J: Journal, M: Management>(
+    out: &mut W,
+    tariff: &Tariff,
+    book: &Book<J, M>,
+    localities: &[LocalityRow],
+    points: &[PointRow],
+) -> fmt::Result {
+    for place in 0..localities.len() as u64 {
+        if let Some(locality) = record_at(localities, place) {
+            write_locality(out, tariff, place, &locality)?;
+        }
+    }
+    for company in 0..16 {
+        write_company(out, book, localities, points, company)?;
+    }
+    write_account(out, book, points)
 }

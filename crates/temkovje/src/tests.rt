@@ -3,7 +3,7 @@ use crate::run::run_book;
 use std::test::Fail;
 
 // A file, and what is printed of it.
-static PRINTED: [(&str, &str); 7] = [
+static PRINTED: [(&str, &str); 11] = [
     (
         "bill point=0 volume=1 # a comment",
         "line 1: expected the figure days",
@@ -66,6 +66,11 @@ company 15: 0.000 points served in regime, 0.000 in start-up
   verification                                      0 cents
   central cost                                      0 cents
   recognised revenue                                0 cents
+  less lines 1 to 4 billed                          0 cents
+  less advances                                     0 cents
+  balance due                                       0 cents
+
+equalisation account: 0 cents
 ",
     ),
     // refused bills
@@ -137,6 +142,11 @@ company 0: 0.000 points served in regime, 0.000 in start-up
   verification                                      0 cents
   central cost                                      0 cents
   recognised revenue                                0 cents
+  less lines 1 to 4 billed                        480 cents
+  less advances                                     0 cents
+  balance due                                    -480 cents
+
+equalisation account: 5 cents
 ",
     ),
     // odd spellings that are well formed, and figures at their ends
@@ -197,6 +207,105 @@ company 15: 0.000 points served in regime, 1.000 in start-up
   verification                          1000000000000 cents
   central cost                          1000000000000 cents
   recognised revenue                    2000000100000 cents
+  less lines 1 to 4 billed               200000200000 cents
+  less advances                                     0 cents
+  balance due                           1799999900000 cents
+
+equalisation account: 0 cents
+",
+    ),
+    // a book number above its limit
+    (
+        "tariff days=365 commercial=1
+bracket end=1000000000 price=0
+opening number=65536",
+        "refusal 7 (layer 2, tables) at figure 1: a figure lies beyond its limit: number",
+    ),
+    // an opening sum beyond its limit
+    (
+        "tariff days=365 commercial=1
+bracket end=1000000000 price=0
+opening sum=-1000000000001",
+        "refusal 7 (layer 2, tables) at figure 2: a figure lies beyond its limit: sum",
+    ),
+    // a full journal
+    (
+        "tariff days=365 commercial=1
+bracket end=1000000000 price=0
+journal capacity=1
+register company=0 advance=-1 instalments=2 verification=0 central=0 points=0 density=1 award=1
+file locality=0 company=0 state=1 area=1 expected=0 smart=0
+enrol point=0 locality=0 class=1 domestic=0
+draw company=0
+send book=0 company=0 instalment=1
+bill point=0 volume=0 days=0
+bill point=0 volume=1 days=1
+confirm book=0 company=0 instalment=1",
+        "company 0: registered; advance -1 cents, instalments 2, verification 0 cents, central cost 0 cents
+  points for class 0, density 1, award year 1
+locality 0: filed; company 0, in regime, area 1
+point 0: enrolled in locality 0, class 1, not domestic
+order for company 0: drawn; book 0, instalment 1
+order of book 0, company 0, instalment 1: sent
+bill of point 0: 0 Smc, 0 days; year to date 0 Smc, 0 days
+  cents                 before           now       charged
+  1 distribution             0             0             0
+  2 metering                 0             0             0
+  3 commercial               0             0             0
+  4 variable                 0             0             0
+  5 GS                       0             0             0
+  6 UG1                      0             0             0
+  lines 1 to 4               0             0             0
+  lines 5 and 6              0             0             0
+bill of point 0: refusal 16 (layer 4, journal) at length 1: the journal is full
+order of book 0, company 0, instalment 1: refusal 16 (layer 4, journal) at length 1: the journal is full
+
+locality 0 of company 0, in regime: 0 expected points, 0 smart points
+  capital cost of distribution                      0 cents
+  capital cost of metering                          0 cents
+  fees and remote reading                           0 cents
+  adds to recognised revenue                        0 cents
+  unit component of distribution: refusal 17 (layer 2, tables) at locality 0: the locality has no expected points
+  unit component of metering: refusal 17 (layer 2, tables) at locality 0: the locality has no expected points
+
+company 0: 0.000 points served in regime, 0.000 in start-up
+  localities                                        0 cents
+  operating                                         0 cents
+  start-up                                          0 cents
+  installation and readings                         0 cents
+  commercial                                        0 cents
+  verification                                      0 cents
+  central cost                                      0 cents
+  recognised revenue                                0 cents
+  less lines 1 to 4 billed                          0 cents
+  less advances                                     0 cents
+  balance due                                       0 cents
+
+equalisation account: 0 cents
+",
+    ),
+    // questions about what is not there
+    (
+        "tariff days=365 commercial=1
+bracket end=1000000000 price=0
+cost locality=256 service=1
+component locality=255 service=2
+served company=16
+revenue company=0
+balance company=0
+account
+draw company=0
+bounce book=1 company=16 instalment=1",
+        "capital cost of distribution, locality 256: refusal 4 (layer 2, tables) at place 256: the place lies past its table, or a table or list has a wrong length
+unit component of metering, locality 255: refusal 5 (layer 2, tables) at place 255: nothing stands at a place that the call needs
+points served by company 16: refusal 4 (layer 2, tables) at place 16: the place lies past its table, or a table or list has a wrong length
+recognised revenue of company 0: refusal 5 (layer 2, tables) at place 0: nothing stands at a place that the call needs
+balance due to company 0: refusal 5 (layer 2, tables) at place 0: nothing stands at a place that the call needs
+account: 0 cents
+order for company 0: refusal 5 (layer 2, tables) at place 0: nothing stands at a place that the call needs
+order of book 1, company 16, instalment 1: refusal 4 (layer 2, tables) at place 16: the place lies past its table, or a table or list has a wrong length
+
+equalisation account: 0 cents
 ",
     ),
 ];

@@ -8,7 +8,8 @@ ghost use Rattle.book.specs.Questions as asked;
 use super::Book;
 use crate::costs::costs_of;
 use crate::settlement::due;
-use calls::asking::asked_locality;
+use calls::asking::{asked_company, asked_locality};
+use company::record::Company;
 use journal::entry::Entry;
 use journal::kept::Journal;
 use management::rule::Management;
@@ -46,6 +47,29 @@ impl<J: Journal, M: Management> Book<J, M> {
         let opened = self.opened.as_ref().ok_or(Reason::BookNotOpen.at(0))?;
         let locality = asked_locality(localities, place)?;
         locality.unit_component(&opened.tariff, service, place)
+    }
+
+    /// How the company at a place stands.
+    pub fn company(&self, place: u64) -> Result<Company, Refusal>
+        ensures { result ≡ asked.company (state J.Journal M.Management self.now) place }
+    {
+        let opened = self.opened.as_ref().ok_or(Reason::BookNotOpen.at(0))?;
+        asked_company(&opened.companies, place)
+    }
+
+    /// Lines 1 to 4 of a company's points, at the volume and days on record.
+    pub fn billed(
+        &self,
+        localities: &[LocalityRow],
+        points: &[PointRow],
+        company: u64,
+    ) -> Result<Cents, Refusal>
+        ensures { result ≡ asked.lines_billed (state J.Journal M.Management self.now) localities.now points.now company }
+    {
+        let opened = self.opened.as_ref().ok_or(Reason::BookNotOpen.at(0))?;
+        let (tables, _) = opened.asked(localities, points, company)?;
+        let billed = tables.sums(&opened.tariff, company).billed;
+        Ok(Cents(i128::from(billed)))
     }
 
     /// The points that a company served.

@@ -1,13 +1,20 @@
-// The tariff table and the management rule as they are filed, from the figures that are given.
+// The tariff table, the management rule and the opening as they are filed, from the figures that are given.
 ghost use Rattle.std.specs.Prelude.{◌≡◌, ◌<◌};
 ghost use Rattle.bookfile.specs.declared.table.TheConstants.{SLOTS};
-ghost use Rattle.bookfile.specs.Filed.{figure, bracket, filed, rule_of};
+ghost use Rattle.bookfile.specs.Filed.{figure, bracket, filed, rule_of, opening_of};
 
-use super::{BRACKETS, COEFFICIENTS, DISTRIBUTION, LIVES, MANAGEMENT, METERING, Table};
+use super::{
+    BRACKETS, CAPACITY, COEFFICIENTS, DISTRIBUTION, LIVES, MANAGEMENT, METERING, OPENING, Table,
+};
+use crate::numbers::{change, whole};
+use crate::opening::OpeningFigures;
 use crate::rule::RuleFigures;
 use std::array;
 use tariff::figures::{Bracket, Coefficient, Life, Rate, TariffFigures};
 use units::amounts::{PointPrice, VolumePrice};
+
+// The most entries that a journal can hold.
+const MOST_ENTRIES: u64 = 1_048_576;
 
 impl Table {
     /// The table's figures; one that is not given is 0.
@@ -45,11 +52,22 @@ impl Table {
         }
     }
 
+    /// How the book is opened: the journal has the most places where its capacity is not given.
+    pub(crate) fn opening(&self) -> OpeningFigures
+        ensures { result ≡ opening_of self.now }
+    {
+        OpeningFigures {
+            number: self.figure(OPENING),
+            sum: change(self.slots[OPENING + 1]),
+            capacity: self.slots[CAPACITY].map_or(MOST_ENTRIES, |n| whole(Some(n))),
+        }
+    }
+
     fn figure(&self, slot: usize) -> u64
         requires { slot < SLOTS }
         ensures { result ≡ figure self.now slot }
     {
-        self.slots[slot].unwrap_or(0)
+        whole(self.slots[slot])
     }
 
     fn bracket(&self, i: usize) -> Bracket

@@ -6,7 +6,9 @@ ghost use Rattle.bookfile.specs.Numbers.{whole_at};
 ghost use Rattle.bookfile.specs.Slots.{Puts};
 ghost use Rattle.bookfile.specs.Tables.{empty_table, next_bracket, span_of, table_after};
 
-use super::{BRACKETS, COEFFICIENTS, DISTRIBUTION, LIVES, MANAGEMENT, METERING, SLOTS, Table};
+use super::{
+    BRACKETS, CAPACITY, COEFFICIENTS, DISTRIBUTION, LIVES, MANAGEMENT, METERING, OPENING, SLOTS, Table,
+};
 use crate::line::Line;
 use crate::malformed::Malformed;
 use crate::slots::{Span, put_all};
@@ -47,7 +49,9 @@ fn line_span(line: &Line, brackets: usize) -> Option<Span>
         Statement::Life => (row_slot(line, LIVES, 1), 1, 1),
         Statement::Bracket => return bracket_span(brackets),
         Statement::Management => (MANAGEMENT, 0, 10),
-        Statement::Register | Statement::File | Statement::Enrol | Statement::Bill => (0, 0, 0),
+        Statement::Opening => (OPENING, 0, 2),
+        Statement::Journal => (CAPACITY, 0, 1),
+        _ => (0, 0, 0),
     };
     Some(Span {
         slot,

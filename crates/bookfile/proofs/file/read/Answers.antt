@@ -38,4 +38,4 @@ loop-i-preserved-in-Continue-branch-2 c =
 
 pub returns : goal.returns
 returns c =
-    at_end c.args.text.now (lines_rest c.loop-i.i-iterator.iter) c.loop-i.i-iterator.count _ c.loop-i.table c.loop-i.invariant c.in-None.ensures.steps.0.0.0 c.filed-tariff.ensures c.rule-rule.ensures
+    at_end c.args.text.now (lines_rest c.loop-i.i-iterator.iter) c.loop-i.i-iterator.count _ c.loop-i.table c.loop-i.invariant c.in-None.ensures.steps.0.0.0 c.filed-tariff.ensures c.rule-rule.ensures c.opening-opening.ensures

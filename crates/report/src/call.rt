@@ -1,0 +1,90 @@
+// What a call is about, in print, and the statement that makes it.
+use bookfile::statement::Statement;
+use calls::call::{Call, Order, Question};
+use std::fmt;
+use tables::service::Service;
+
+/// The call whose answer follows.
+#[derive(Clone, Copy, Debug, PartialEq, Eq)]
+pub(crate) struct About(pub(crate) Call);
+
+impl fmt::Display for About {
+    fn fmt<W: fmt::Write>(&self, f: &mut fmt::Formatter<W>) -> fmt::Result {
+        match self.0 {
+            Call::Register { company, terms: _ } => write!(f, "company {company}"),
+            Call::File {
+                locality,
+                filing: _,
+            } => write!(f, "locality {locality}"),
+            Call::Enrol {
+                point,
+                enrolment: _,
+            } => write!(f, "point {point}"),
+            Call::Bill { point, change: _ } => write!(f, "bill of point {point}"),
+            Call::Draw { company } => write!(f, "order for company {company}"),
+            Call::Cancel(order) | Call::Send(order) | Call::Confirm(order) | Call::Bounce(order) => {
+                write_order(f, order)
+            }
+            Call::Ask(question) => write_question(f, question),
+        }
+    }
+}
+
+fn write_order<W: fmt::Write>(f: &mut fmt::Formatter<W>, order: Order) -> fmt::Result {
+    write!(
+        f,
+        "order of book {}, company {}, instalment {}",
+        order.book, order.company, order.instalment
+    )
+}
+
+fn write_question<W: fmt::Write>(f: &mut fmt::Formatter<W>, question: Question) -> fmt::Result {
+    match question {
+        Question::CapitalCost { locality, service } => {
+            write!(f, "capital cost of {}, locality {locality}", name(service))
+        }
+        Question::UnitComponent { locality, service } => {
+            write!(f, "unit component of {}, locality {locality}", name(service))
+        }
+        Question::Served { company } => write!(f, "points served by company {company}"),
+        Question::Revenue { company } => write!(f, "recognised revenue of company {company}"),
+        Question::BalanceDue { company } => write!(f, "balance due to company {company}"),
+        Question::Account => f.write_str("account"),
+    }
+}
+
+fn name(service: Service) -> &'static str {
+    match service {
+        Service::Distribution => "distribution",
+        Service::Metering => "metering",
+    }
+}
+
+impl About {
+    /// The statement that makes such a call.
+    pub(crate) fn statement(self) -> Statement {
+        match self.0 {
+            Call::Register { .. } => Statement::Register,
+            Call::File { .. } => Statement::File,
+            Call::Enrol { .. } => Statement::Enrol,
+            Call::Bill { .. } => Statement::Bill,
+            Call::Draw { .. } => Statement::Draw,
+            Call::Cancel(_) => Statement::Cancel,
+            Call::Send(_) => Statement::Send,
+            Call::Confirm(_) => Statement::Confirm,
+            Call::Bounce(_) => Statement::Bounce,
+            Call::Ask(question) => statement_of(question),
+        }
+    }
+}
+
+fn statement_of(question: Question) -> Statement {
+    match question {
+        Question::CapitalCost { .. } => Statement::Cost,
+        Question::UnitComponent { .. } => Statement::Component,
+        Question::Served { .. } => Statement::Served,
+        Question::Revenue { .. } => Statement::Revenue,
+        Question::BalanceDue { .. } => Statement::Balance,
+        Question::Account => Statement::Account,
+    }
+}
