@@ -4,3 +4,4 @@ pub mod Openings
 pub mod Companies
 pub mod Rows
 pub mod Questions
+pub mod Laws

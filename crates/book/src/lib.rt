@@ -3,6 +3,7 @@
 
 pub mod book;
 pub mod costs;
+pub mod laws;
 pub mod opened;
 pub mod order;
 mod settlement;

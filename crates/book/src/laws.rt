@@ -1,0 +1,10 @@
+// The laws of the book, on which the rules of a whole year rest.
+ghost use Rattle.book.specs.Laws.{OrderLaws};
+
+/// At most one order of a company is out, and each event of it is for the instalment that it was drawn for.
+#[tactic(auto, using(crate::proofs::OrderLaws::order_laws))]
+pub fn order_laws() -> u8
+    ensures { OrderLaws }
+{
+    0
+}
