@@ -1,1 +1,5 @@
 pub mod OrderLaws
+pub mod Granted
+pub mod Events
+pub mod Noting
+pub mod ConfirmLaw

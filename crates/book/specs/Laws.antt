@@ -1,11 +1,19 @@
 -- The laws of the book, on which the rules of a whole year rest. They follow from the definitions of what each call meets and leaves.
-use Rattle.std.specs.Prelude.{◌≡◌, ℕ, ◌+◌, Ok}
+use Rattle.std.specs.Prelude.{◌≡◌, ◌≢◌, ℕ, ◌+◌, List, [], ◌∷◌, ◌++◌, ℤ, pos, ◌+ℤ◌, ◌-ℤ◌, Some, None, Ok, Option}
+use Rattle.tables.specs.declared.rows.PointRow.{PointRow}
 use Rattle.company.specs.declared.record.Company.{Company}
 use Rattle.company.specs.declared.record.Event.{Event}
 use Rattle.company.specs.declared.record.Event.TheVariants.{File, Enrol, Bill, Draw, Cancel, Send, Confirm, Bounce}
 use Rattle.company.specs.declared.record.Phase.{Phase}
 use Rattle.company.specs.declared.record.Phase.TheVariants.{Free, Drawn, Sent, Closed}
 use Rattle.company.specs.Events.{act_answer, act_after}
+use Rattle.calls.specs.Decisions.{company_at}
+use Rattle.book.specs.declared.opened.Opened.{Opened}
+use Rattle.book.specs.declared.order.Order.{Order}
+use Rattle.book.specs.States.{BookState}
+use Rattle.book.specs.Companies.{confirming, confirmed_by, amount_paid}
+use Rattle.book.specs.Questions.{account_of}
+use Rattle.book.specs.JournalSums.{journal_volume, journal_days, advances_of, payments}
 
 -- ---- Orders
 
@@ -43,3 +51,34 @@ pub record OrderLaws : Type 0 where
   pub sent : (c : Company) (j k : ℕ) → act_answer c (Send j) ≡ Ok k → (j ≡ k) × (c.phase ≡ Drawn k)
   pub confirmed : (c : Company) (j k : ℕ) → act_answer c (Confirm j) ≡ Ok k → (j ≡ k) × (c.phase ≡ Sent k)
   pub bounced : (c : Company) (j k : ℕ) → act_answer c (Bounce j) ≡ Ok k → (j ≡ k) × (c.phase ≡ Sent k)
+
+-- ---- Confirming
+
+-- the company at a place; none while the book is not open
+abbrev pub company_in : Option Opened → (place : ℕ) → Option Company
+company_in None place = None
+company_in (Some o) place = company_at o.companies place
+
+-- the account with these points; 0 while the book is not open
+abbrev pub account_in : Option Opened → List PointRow → ℤ
+account_in None points = pos 0
+account_in (Some o) points = account_of o points
+
+-- What confirming instalment d.1 leaves, where d.0 is the company at the place after it.
+pub record Confirmed (before after : BookState) (place : ℕ) (d : Company × ℕ) : Type 0 where
+  -- the volume and the days of every point stay
+  pub volume : (point : ℕ) → journal_volume after.entries point ≡ journal_volume before.entries point
+  pub days : (point : ℕ) → journal_days after.entries point ≡ journal_days before.entries point
+  -- the company has one advance more, of this number and amount; the others have none more
+  pub advances : advances_of after.entries place ≡ advances_of before.entries place ++ (d.1, amount_paid d) ∷ []
+  pub others : (other : ℕ) → other ≢ place → advances_of after.entries other ≡ advances_of before.entries other
+  -- the amount is one of the payments
+  pub payment : payments after.entries ≡ payments before.entries +ℤ (amount_paid d).0
+  -- the instalment is the last one that is paid
+  pub company : company_in after.opened place ≡ Some d.0
+  pub paid : d.0.paid ≡ d.1
+  -- the account loses the amount, where it is the instalment that follows on those paid before
+  pub account : (points : List PointRow) (c : Company) → company_in before.opened place ≡ Some c → d.1 ≡ c.paid + 1 → account_in after.opened points ≡ account_in before.opened points -ℤ (amount_paid d).0
+
+abbrev pub ConfirmLaw : Type 0
+ConfirmLaw = (b : BookState) (o : Order) (d : Company × ℕ) → confirming b o ≡ Ok d → Confirmed b (confirmed_by b o.company (Ok d)) o.company d

@@ -4,4 +4,5 @@ pub mod Openings
 pub mod Companies
 pub mod Rows
 pub mod Questions
+pub mod JournalSums
 pub mod Laws
