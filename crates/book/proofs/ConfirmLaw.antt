@@ -2,6 +2,7 @@
 use Rattle.std.proofs.Common.{◌≡◌, ℕ, ◌+◌, ◌-◌, List, ◌+ℤ◌, ◌-ℤ◌, Some, None, Option, sym, ap, ◌∙◌, get_or-set_same, arith}
 use borrow.Author.Differences.{ints}
 use Rattle.tables.specs.declared.rows.PointRow.{PointRow}
+use Rattle.journal.specs.Appending.{append_answer}
 use Rattle.company.specs.declared.record.Company.{Company}
 use Rattle.company.specs.declared.record.Event.TheVariants.{Confirm}
 use Rattle.company.specs.Instalments.{paid_up_to, instalment}
@@ -10,7 +11,7 @@ use Rattle.book.specs.States.{put}
 use Rattle.book.specs.Companies.{amount_paid, decided}
 use Rattle.book.specs.Questions.{paid_out}
 use Rattle.book.specs.Laws.{company_in, account_in, ConfirmLaw}
-use Rattle.book.proofs.Granted.{room_granted, within}
+use Rattle.book.proofs.Granted.{both_granted, within}
 use Rattle.book.proofs.Events.{Granted, event_granted, account_put}
 use Rattle.book.proofs.Noting.{no_change, its_advance, others_advances, its_payment}
 
@@ -38,7 +39,7 @@ company_put (Some o) place c new stood = get_or-set_same o.companies place (Some
 
 pub confirm_law : ConfirmLaw
 confirm_law b o d granted =
-    let g = event_granted b.opened o.book o.company (Confirm o.instalment) d (room_granted b (decided b o.book o.company (Confirm o.instalment)) d granted) in
+    let g = event_granted b.opened o.book o.company (Confirm o.instalment) d (both_granted (decided b o.book o.company (Confirm o.instalment)) (append_answer b.room b.entries) d granted) in
     record {
       volume = no_change b.entries o.company d.1 (amount_paid d) (λ e. e.volume);
       days = no_change b.entries o.company d.1 (amount_paid d) (λ e. e.days);

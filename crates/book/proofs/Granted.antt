@@ -1,10 +1,8 @@
 -- What it says of the parts of a decision that it is granted.
-use Rattle.std.proofs.Common.{◌≡◌, ℕ, zero, suc, ◌<◌, Bool, true, false, List, [], ◌∷◌, length, get_or, Some, None, Ok, Err, Option, Result, refl, ap, arith}
+use Rattle.std.proofs.Common.{◌≡◌, ℕ, zero, suc, ◌<◌, Bool, true, false, List, [], ◌∷◌, length, get_or, Some, None, Ok, Err, Option, Result, refl, arith}
 use Rattle.units.specs.declared.refusal.Reason.{Reason}
 use Rattle.units.specs.declared.refusal.Refusal.{Refusal}
 use Rattle.units.specs.Refusals.{refused_at}
-use Rattle.journal.specs.Appending.{append_answer}
-use Rattle.book.specs.States.{BookState, in_room}
 use Rattle.calls.specs.Steps.{when, found, next}
 
 pub when_granted : {X : Type 0} (holds : Bool) (reason : Reason) (place : ℕ) (rest : Result X Refusal) (x : X) → when holds reason place rest ≡ Ok x → (holds ≡ true) × (rest ≡ Ok x)
@@ -23,14 +21,14 @@ pub at_granted : {X : Type 0} (place : ℕ) (answer : Result X Reason) (x : X) �
 at_granted place (Ok y) x granted = cc
 at_granted place (Err reason) x granted = cc
 
--- what is granted while there is room is granted without asking for it
-answer_stays : {X : Type 0} (room : Result Unit Refusal) (x y : X) → next room (λ _. Ok x) ≡ Ok y → x ≡ y
-answer_stays (Ok some) x y granted = cc
-answer_stays (Err refused) x y granted = cc
+-- a second part that is only asked whether it is granted
+pub both_granted : {A X : Type 0} (first : Result X Refusal) (second : Result A Refusal) (x : X) → next first (λ y. next second (λ _. Ok y)) ≡ Ok x → first ≡ Ok x
+both_granted (Ok y) (Ok a) x granted = granted
+both_granted (Ok y) (Err refused) x granted = cc
+both_granted (Err refused) second x granted = cc
 
-pub room_granted : {X : Type 0} (b : BookState) (answer : Result X Refusal) (x : X) → in_room b answer ≡ Ok x → answer ≡ Ok x
-room_granted b (Ok y) x granted = ap Ok (answer_stays (append_answer b.room b.entries) y x granted)
-room_granted b (Err refused) x granted = cc
+pub same : {X : Type 0} (x y : X) → ◌≡◌ {A = Result X Refusal} (Ok x) (Ok y) → x ≡ y
+same x y granted = cc
 
 -- what stands at a place stands within the list
 pub within : {A : Type 0} (xs : List (Option A)) (place : ℕ) (a : A) → get_or xs place None ≡ Some a → place < length xs

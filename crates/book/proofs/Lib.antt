@@ -3,3 +3,4 @@ pub mod Granted
 pub mod Events
 pub mod Noting
 pub mod ConfirmLaw
+pub mod QuietLaws

@@ -1,18 +1,23 @@
 -- The laws of the book, on which the rules of a whole year rest. They follow from the definitions of what each call meets and leaves.
 use Rattle.std.specs.Prelude.{◌≡◌, ◌≢◌, ℕ, ◌+◌, List, [], ◌∷◌, ◌++◌, ℤ, pos, ◌+ℤ◌, ◌-ℤ◌, Some, None, Ok, Option}
+use Rattle.tables.specs.declared.rows.LocalityRow.{LocalityRow}
 use Rattle.tables.specs.declared.rows.PointRow.{PointRow}
+use Rattle.company.specs.declared.figures.TermsFigures.{TermsFigures}
 use Rattle.company.specs.declared.record.Company.{Company}
 use Rattle.company.specs.declared.record.Event.{Event}
 use Rattle.company.specs.declared.record.Event.TheVariants.{File, Enrol, Bill, Draw, Cancel, Send, Confirm, Bounce}
 use Rattle.company.specs.declared.record.Phase.{Phase}
 use Rattle.company.specs.declared.record.Phase.TheVariants.{Free, Drawn, Sent, Closed}
 use Rattle.company.specs.Events.{act_answer, act_after}
+use Rattle.calls.specs.declared.enrolling.Enrolment.{Enrolment}
 use Rattle.calls.specs.Decisions.{company_at}
 use Rattle.book.specs.declared.opened.Opened.{Opened}
 use Rattle.book.specs.declared.order.Order.{Order}
 use Rattle.book.specs.States.{BookState}
-use Rattle.book.specs.Companies.{confirming, confirmed_by, amount_paid}
+use Rattle.book.specs.Companies.{registered, registered_by, drawing, cancelling, sending, bouncing, moved, confirming, confirmed_by, amount_paid}
 use Rattle.book.specs.Questions.{account_of}
+use Rattle.book.specs.Rows.{enrolling}
+use Rattle.book.specs.Tables.{written}
 use Rattle.book.specs.JournalSums.{journal_volume, journal_days, advances_of, payments}
 
 -- ---- Orders
@@ -82,3 +87,19 @@ pub record Confirmed (before after : BookState) (place : ℕ) (d : Company × �
 
 abbrev pub ConfirmLaw : Type 0
 ConfirmLaw = (b : BookState) (o : Order) (d : Company × ℕ) → confirming b o ≡ Ok d → Confirmed b (confirmed_by b o.company (Ok d)) o.company d
+
+-- ---- What pays and charges nothing
+
+-- nothing is appended, and the account stays, with the points after as with those before
+pub record Quiet (before after : BookState) (old new : List PointRow) : Type 0 where
+  pub entries : after.entries ≡ before.entries
+  pub account : account_in after.opened new ≡ account_in before.opened old
+
+-- these calls are quiet, whether they are granted or refused; filing writes a locality alone, which no account looks at
+pub record QuietLaws : Type 0 where
+  pub registering : (b : BookState) (points : List PointRow) (place : ℕ) (figures : TermsFigures) → Quiet b (registered_by b place (registered b place figures)) points points
+  pub drawing : (b : BookState) (points : List PointRow) (place : ℕ) → Quiet b (moved b place (drawing b place)) points points
+  pub cancelling : (b : BookState) (points : List PointRow) (o : Order) → Quiet b (moved b o.company (cancelling b o)) points points
+  pub sending : (b : BookState) (points : List PointRow) (o : Order) → Quiet b (moved b o.company (sending b o)) points points
+  pub bouncing : (b : BookState) (points : List PointRow) (o : Order) → Quiet b (moved b o.company (bouncing b o)) points points
+  pub enrolling : (b : BookState) (localities : List LocalityRow) (points : List PointRow) (point : ℕ) (e : Enrolment) → Quiet b b points (written (λ p. p) points point (enrolling b localities points point e))

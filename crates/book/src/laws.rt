@@ -1,5 +1,5 @@
 // The laws of the book, on which the rules of a whole year rest.
-ghost use Rattle.book.specs.Laws.{OrderLaws, ConfirmLaw};
+ghost use Rattle.book.specs.Laws.{OrderLaws, ConfirmLaw, QuietLaws};
 
 /// At most one order of a company is out, and each event of it is for the instalment that it was drawn for.
 #[tactic(auto, using(crate::proofs::OrderLaws::order_laws))]
@@ -12,6 +12,14 @@ pub fn order_laws() -> u8
 /// Confirming advances the order's instalment to its company, and nothing else moves in the journal. The account loses its amount.
 pub fn confirm_law() -> u8
     ensures { ConfirmLaw }
+{
+    0
+}
+
+/// Registering, enrolling and the other events of an order append nothing and leave the account.
+#[tactic(auto, using(crate::proofs::QuietLaws::quiet_laws))]
+pub fn quiet_laws() -> u8
+    ensures { QuietLaws }
 {
     0
 }
