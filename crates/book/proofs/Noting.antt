@@ -1,5 +1,5 @@
 -- How what the journal comes to changes with one entry more.
-use Rattle.std.proofs.Common.{◌≡◌, ◌≢◌, ℕ, eqb, List, [], ◌∷◌, ◌++◌, ℤ, ◌+ℤ◌, refl, sym, ap, ◌∙◌, arith}
+use Rattle.std.proofs.Common.{◌≡◌, ◌≢◌, ℕ, eqb, List, [], ◌∷◌, ◌++◌, ℤ, pos, ◌+ℤ◌, refl, sym, ap, ◌∙◌, arith}
 use Rattle.std.proofs.lemmas.Bool.{cond-true, cond-false, eq-eqb, ne_eqb}
 use Rattle.std.proofs.lemmas.List.{append-nil, append_assoc}
 use borrow.Author.Differences.{ints}
@@ -7,7 +7,9 @@ use Rattle.units.specs.declared.amounts.Cents.{Cents}
 use Rattle.journal.specs.declared.entry.Entry.{Entry}
 use Rattle.rounding.specs.Sums.{sum_z}
 use Rattle.rounding.proofs.SumLaws.{sum_z_push}
+use Rattle.calls.specs.declared.billing.Charged.{Charged}
 use Rattle.book.specs.Companies.{advance_entry}
+use Rattle.book.specs.Rows.{bill_entry}
 use Rattle.book.specs.JournalSums.{change_at, advance_in, advances_of, payment_in, payments, Advanced}
 
 -- ---- Any entry
@@ -41,3 +43,24 @@ module _ (es : List Entry) (company k : ℕ) (amount : Cents) where
 
   pub its_payment : payments (es ++ advance_entry company k amount ∷ []) ≡ payments es +ℤ amount.0
   its_payment = sum_z_push payment_in es (advance_entry company k amount)
+
+-- ---- A bill
+module _ (es : List Entry) (c : Charged) (point : ℕ) (dv dd : ℤ) (change : Entry → ℤ) where
+  pub its_change : sum_z (change_at point change) (es ++ bill_entry c point dv dd ∷ []) ≡ sum_z (change_at point change) es +ℤ change (bill_entry c point dv dd)
+  its_change =
+      let more = sum_z_push (change_at point change) es (bill_entry c point dv dd) in
+      let own = cond-true (eqb point point) (change (bill_entry c point dv dd)) (pos 0) (eq-eqb point point refl) in
+      omega (arith, ints)
+
+  pub others_change : (other : ℕ) → other ≢ point → sum_z (change_at other change) (es ++ bill_entry c point dv dd ∷ []) ≡ sum_z (change_at other change) es
+  others_change other not =
+      let more = sum_z_push (change_at other change) es (bill_entry c point dv dd) in
+      let own = cond-false (eqb point other) (change (bill_entry c point dv dd)) (pos 0) (ne_eqb point other (λ e. not (sym e))) in
+      omega (arith, ints)
+
+module _ (es : List Entry) (c : Charged) (point : ℕ) (dv dd : ℤ) where
+  pub no_advances : (company : ℕ) → advances_of (es ++ bill_entry c point dv dd ∷ []) company ≡ advances_of es company
+  no_advances company = no_advance es (bill_entry c point dv dd) company refl
+
+  pub no_payment : payments (es ++ bill_entry c point dv dd ∷ []) ≡ payments es
+  no_payment = let more = sum_z_push payment_in es (bill_entry c point dv dd) in omega (arith, ints)

@@ -1,7 +1,9 @@
 -- The laws of the book, on which the rules of a whole year rest. They follow from the definitions of what each call meets and leaves.
-use Rattle.std.specs.Prelude.{◌≡◌, ◌≢◌, ℕ, ◌+◌, List, [], ◌∷◌, ◌++◌, ℤ, pos, ◌+ℤ◌, ◌-ℤ◌, Some, None, Ok, Option}
+use Rattle.std.specs.Prelude.{◌≡◌, ◌≢◌, ℕ, ◌+◌, List, [], ◌∷◌, ◌++◌, ℤ, pos, ◌+ℤ◌, ◌-ℤ◌, Some, None, Ok, Option, slice_index_or}
+use Rattle.units.specs.declared.amounts.Cents.{Cents}
 use Rattle.tables.specs.declared.rows.LocalityRow.{LocalityRow}
 use Rattle.tables.specs.declared.rows.PointRow.{PointRow}
+use Rattle.tables.specs.Blank.{no_point}
 use Rattle.company.specs.declared.figures.TermsFigures.{TermsFigures}
 use Rattle.company.specs.declared.record.Company.{Company}
 use Rattle.company.specs.declared.record.Event.{Event}
@@ -9,6 +11,7 @@ use Rattle.company.specs.declared.record.Event.TheVariants.{File, Enrol, Bill, D
 use Rattle.company.specs.declared.record.Phase.{Phase}
 use Rattle.company.specs.declared.record.Phase.TheVariants.{Free, Drawn, Sent, Closed}
 use Rattle.company.specs.Events.{act_answer, act_after}
+use Rattle.calls.specs.declared.billing.Charged.{Charged}
 use Rattle.calls.specs.declared.enrolling.Enrolment.{Enrolment}
 use Rattle.calls.specs.Decisions.{company_at}
 use Rattle.book.specs.declared.opened.Opened.{Opened}
@@ -16,8 +19,8 @@ use Rattle.book.specs.declared.order.Order.{Order}
 use Rattle.book.specs.States.{BookState}
 use Rattle.book.specs.Companies.{registered, registered_by, drawing, cancelling, sending, bouncing, moved, confirming, confirmed_by, amount_paid}
 use Rattle.book.specs.Questions.{account_of}
-use Rattle.book.specs.Rows.{enrolling}
-use Rattle.book.specs.Tables.{written}
+use Rattle.book.specs.Rows.{enrolling, billing, bill_of, billed_by}
+use Rattle.book.specs.Tables.{written, billed_row}
 use Rattle.book.specs.JournalSums.{journal_volume, journal_days, advances_of, payments}
 
 -- ---- Orders
@@ -103,3 +106,24 @@ pub record QuietLaws : Type 0 where
   pub sending : (b : BookState) (points : List PointRow) (o : Order) → Quiet b (moved b o.company (sending b o)) points points
   pub bouncing : (b : BookState) (points : List PointRow) (o : Order) → Quiet b (moved b o.company (bouncing b o)) points points
   pub enrolling : (b : BookState) (localities : List LocalityRow) (points : List PointRow) (point : ℕ) (e : Enrolment) → Quiet b b points (written (λ p. p) points point (enrolling b localities points point e))
+
+-- ---- Bills
+
+-- What a bill of a point leaves, which changes its volume by dv and its days by dd, and in which line 6 gains ug1.
+pub record Billed (before after : BookState) (old new : List PointRow) (point : ℕ) (dv dd : ℤ) (ug1 : Cents) : Type 0 where
+  -- the point's volume and days change so, in the journal and in its row
+  pub volume : journal_volume after.entries point ≡ journal_volume before.entries point +ℤ dv
+  pub days : journal_days after.entries point ≡ journal_days before.entries point +ℤ dd
+  pub row_volume : pos (slice_index_or new point no_point).volume ≡ pos (slice_index_or old point no_point).volume +ℤ dv
+  pub row_days : pos (slice_index_or new point no_point).days ≡ pos (slice_index_or old point no_point).days +ℤ dd
+  -- those of every other point stay
+  pub other_volume : (other : ℕ) → other ≢ point → journal_volume after.entries other ≡ journal_volume before.entries other
+  pub other_days : (other : ℕ) → other ≢ point → journal_days after.entries other ≡ journal_days before.entries other
+  -- no company is advanced or paid anything
+  pub advances : (company : ℕ) → advances_of after.entries company ≡ advances_of before.entries company
+  pub payment : payments after.entries ≡ payments before.entries
+  -- the account gains what line 6 does
+  pub account : account_in after.opened new ≡ account_in before.opened old +ℤ ug1.0
+
+abbrev pub BillLaw : Type 0
+BillLaw = (b : BookState) (localities : List LocalityRow) (points : List PointRow) (point : ℕ) (dv dd : ℤ) (c : Charged) → billing b localities points point dv dd ≡ Ok c → Billed b (billed_by b point dv dd (Ok c)) points (written (billed_row (slice_index_or points point no_point)) points point (bill_of (Ok c))) point dv dd c.bill.charge.ug1
