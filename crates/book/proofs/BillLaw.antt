@@ -21,7 +21,7 @@ use Rattle.book.specs.Tables.{billed_row}
 use Rattle.book.specs.Laws.{account_in, BillLaw}
 use Rattle.book.proofs.Granted.{both_granted}
 use Rattle.book.proofs.Noting.{its_change, others_change, no_advances, no_payment}
-use Rattle.book.proofs.Bills.{Granted, bill_granted}
+use Rattle.book.proofs.Bills.{GrantedBill, bill_granted}
 
 -- a row that is billed within its limits stands as it did
 still_stands : (p : PointRow) (b : Bill) → point_stands p ≡ true → b.volume ≤ 1000000000 → b.days ≤ 366 → point_stands (billed_row p b) ≡ true
@@ -37,7 +37,7 @@ still_stands p b stood volume days =
 year_days : (t : Tariff) → t.figures.days ≤ 366
 year_days t = ⊎_elim (λ short. omega arith) (λ long. omega arith) (held t).year
 
-module _ (o : Opened) (points : List PointRow) (point : ℕ) (dv dd : ℤ) (b : Bill) (g : Granted o.tariff.figures points point dv dd b) where
+module _ (o : Opened) (points : List PointRow) (point : ℕ) (dv dd : ℤ) (b : Bill) (g : GrantedBill o.tariff.figures points point dv dd b) where
   pub ug1_gains : pos (ug1_due o.tariff.figures (set points point (billed_row (get_or points point no_point) b))) ≡ pos (ug1_due o.tariff.figures points) +ℤ b.charge.ug1.0
   ug1_gains =
       let t = o.tariff.figures in

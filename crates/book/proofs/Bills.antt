@@ -92,12 +92,12 @@ seat_is companies localities points point seat granted =
     record { within = ltb-true _ _ point_in.0; stands = row.0; row = row.1 ∙ seat_row }
 
 -- the point stands in the table, and the bill charges its row
-pub record Granted (t : TariffFigures) (points : List PointRow) (point : ℕ) (dv dd : ℤ) (b : Bill) : Type 0 where
+pub record GrantedBill (t : TariffFigures) (points : List PointRow) (point : ℕ) (dv dd : ℤ) (b : Bill) : Type 0 where
   pub within : point < length points
   pub stands : point_stands (get_or points point no_point) ≡ true
   pub charges : Charges t (get_or points point no_point) dv dd b
 
-pub bill_granted : (t : TariffFigures) (companies : Companies) (localities : List LocalityRow) (points : List PointRow) (point : ℕ) (dv dd : ℤ) (c : Charged) → billing t companies localities points point dv dd ≡ Ok c → Granted t points point dv dd c.bill
+pub bill_granted : (t : TariffFigures) (companies : Companies) (localities : List LocalityRow) (points : List PointRow) (point : ℕ) (dv dd : ℤ) (c : Charged) → billing t companies localities points point dv dd ≡ Ok c → GrantedBill t points point dv dd c.bill
 bill_granted t companies localities points point dv dd c granted =
     let seat = next_granted (seated companies localities points point) _ c granted in
     let row = seat_is companies localities points point seat.0 seat.1 in

@@ -12,10 +12,10 @@ use Rattle.book.specs.Companies.{amount_paid, decided}
 use Rattle.book.specs.Questions.{paid_out}
 use Rattle.book.specs.Laws.{company_in, account_in, ConfirmLaw}
 use Rattle.book.proofs.Granted.{both_granted, within}
-use Rattle.book.proofs.Events.{Granted, event_granted, account_put}
+use Rattle.book.proofs.Events.{GrantedEvent, event_granted, account_put}
 use Rattle.book.proofs.Noting.{no_change, its_advance, others_advances, its_payment}
 
-module _ (opened : Option Opened) (place j : ℕ) (d : Company × ℕ) (g : Granted opened place (Confirm j) d) where
+module _ (opened : Option Opened) (place j : ℕ) (d : Company × ℕ) (g : GrantedEvent opened place (Confirm j) d) where
   -- what the company is paid out grows by the instalment
   gains : d.1 ≡ g.c.paid + 1 → paid_out (Some d.0) ≡ paid_out (Some g.c) +ℤ (amount_paid d).0
   gains next =
@@ -44,7 +44,7 @@ confirm_law b o d granted =
       volume = no_change b.entries o.company d.1 (amount_paid d) (λ e. e.volume);
       days = no_change b.entries o.company d.1 (amount_paid d) (λ e. e.days);
       advances = its_advance b.entries o.company d.1 (amount_paid d);
-      others = others_advances b.entries o.company d.1 (amount_paid d);
+      other_advances = others_advances b.entries o.company d.1 (amount_paid d);
       payment = its_payment b.entries o.company d.1 (amount_paid d);
       company = company_put b.opened o.company g.c d.0 g.stood;
       paid = ap (λ (c : Company). c.paid) g.after;

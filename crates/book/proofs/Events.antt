@@ -15,7 +15,7 @@ use Rattle.book.specs.Questions.{paid_out}
 use Rattle.book.proofs.Granted.{when_granted, found_granted, next_granted, at_granted, within}
 
 -- the company c stood at the place; it answered d.1 to the event, and d.0 is what it is after it
-pub record Granted (opened : Option Opened) (place : ℕ) (e : Event) (d : Company × ℕ) : Type 0 where
+pub record GrantedEvent (opened : Option Opened) (place : ℕ) (e : Event) (d : Company × ℕ) : Type 0 where
   pub c : Company
   pub stood : company_in opened place ≡ Some c
   pub answer : act_answer c e ≡ Ok d.1
@@ -28,7 +28,7 @@ answered c place e d granted =
     let answer : act_answer c e ≡ Ok d.1 = at_granted place (act_answer c e) n.0 n.1 ∙ ap (λ (x : Company × ℕ). Ok x.1) d_is in
     (answer, ap (λ (x : Company × ℕ). x.0) (sym d_is) ∙ ap (moved c e) answer)
 
-pub event_granted : (opened : Option Opened) (number place : ℕ) (e : Event) (d : Company × ℕ) → when_open opened (λ o. deciding o.companies o.number number place e) ≡ Ok d → Granted opened place e d
+pub event_granted : (opened : Option Opened) (number place : ℕ) (e : Event) (d : Company × ℕ) → when_open opened (λ o. deciding o.companies o.number number place e) ≡ Ok d → GrantedEvent opened place e d
 event_granted None number place e d granted = cc
 event_granted (Some o) number place e d granted =
     let in_table = when_granted (ltb place 16) _ _ _ d granted in
