@@ -1,0 +1,8 @@
+pub mod OrderLaws
+pub mod Granted
+pub mod Events
+pub mod Noting
+pub mod ConfirmLaw
+pub mod QuietLaws
+pub mod Bills
+pub mod BillLaw

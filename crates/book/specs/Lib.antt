@@ -5,3 +5,5 @@ pub mod Companies
 pub mod Rows
 pub mod Questions
 pub mod Calls
+pub mod JournalSums
+pub mod Laws

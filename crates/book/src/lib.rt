@@ -4,6 +4,7 @@
 pub mod answer;
 pub mod book;
 pub mod costs;
+pub mod laws;
 pub mod opened;
 pub mod order;
 mod settlement;

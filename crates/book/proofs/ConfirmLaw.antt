@@ -1,0 +1,52 @@
+-- What a granted confirming leaves.
+use Rattle.std.proofs.Common.{◌≡◌, ℕ, ◌+◌, ◌-◌, List, ◌+ℤ◌, ◌-ℤ◌, Some, None, Option, sym, ap, ◌∙◌, get_or-set_same, arith}
+use borrow.Author.Differences.{ints}
+use Rattle.tables.specs.declared.rows.PointRow.{PointRow}
+use Rattle.journal.specs.Appending.{append_answer}
+use Rattle.company.specs.declared.record.Company.{Company}
+use Rattle.company.specs.declared.record.Event.TheVariants.{Confirm}
+use Rattle.company.specs.Instalments.{paid_up_to, instalment}
+use Rattle.book.specs.declared.opened.Opened.{Opened}
+use Rattle.book.specs.States.{put}
+use Rattle.book.specs.Companies.{amount_paid, decided}
+use Rattle.book.specs.Questions.{paid_out}
+use Rattle.book.specs.Laws.{company_in, account_in, ConfirmLaw}
+use Rattle.book.proofs.Granted.{both_granted, within}
+use Rattle.book.proofs.Events.{GrantedEvent, event_granted, account_put}
+use Rattle.book.proofs.Noting.{no_change, its_advance, others_advances, its_payment}
+
+module _ (opened : Option Opened) (place j : ℕ) (d : Company × ℕ) (g : GrantedEvent opened place (Confirm j) d) where
+  -- what the company is paid out grows by the instalment
+  gains : d.1 ≡ g.c.paid + 1 → paid_out (Some d.0) ≡ paid_out (Some g.c) +ℤ (amount_paid d).0
+  gains next =
+      let new = ap (λ (c : Company). paid_out (Some c)) g.after in
+      let amount = ap (λ (c : Company). instalment c.terms.figures.advance c.terms.figures.instalments d.1) g.after in
+      let before : d.1 - 1 ≡ g.c.paid = omega arith in
+      let old = ap (paid_up_to g.c.terms.figures.advance g.c.terms.figures.instalments) before in
+      omega (arith, ints)
+
+  account_loses : (points : List PointRow) (c : Company) → company_in opened place ≡ Some c → d.1 ≡ c.paid + 1 → account_in (put opened place d.0) points ≡ account_in opened points -ℤ (amount_paid d).0
+  account_loses points c stood next =
+      let same : g.c ≡ c = cc in
+      let more = gains (next ∙ ap (λ (x : Company). x.paid + 1) (sym same)) in
+      let account = account_put opened place g.c d.0 points g.stood in
+      omega (arith, ints)
+
+-- a company that is put in the place of one stands there
+company_put : (opened : Option Opened) (place : ℕ) (c new : Company) → company_in opened place ≡ Some c → company_in (put opened place new) place ≡ Some new
+company_put None place c new stood = cc
+company_put (Some o) place c new stood = get_or-set_same o.companies place (Some new) None (within o.companies place c stood)
+
+pub confirm_law : ConfirmLaw
+confirm_law b o d granted =
+    let g = event_granted b.opened o.book o.company (Confirm o.instalment) d (both_granted (decided b o.book o.company (Confirm o.instalment)) (append_answer b.room b.entries) d granted) in
+    record {
+      volume = no_change b.entries o.company d.1 (amount_paid d) (λ e. e.volume);
+      days = no_change b.entries o.company d.1 (amount_paid d) (λ e. e.days);
+      advances = its_advance b.entries o.company d.1 (amount_paid d);
+      other_advances = others_advances b.entries o.company d.1 (amount_paid d);
+      payment = its_payment b.entries o.company d.1 (amount_paid d);
+      company = company_put b.opened o.company g.c d.0 g.stood;
+      paid = ap (λ (c : Company). c.paid) g.after;
+      account = account_loses b.opened o.company o.instalment d g;
+    }

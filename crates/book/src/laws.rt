@@ -1,0 +1,32 @@
+// The laws of the book, on which the rules of a whole year rest.
+ghost use Rattle.book.specs.Laws.{OrderLaws, ConfirmLaw, QuietLaws, BillLaw};
+
+/// At most one order of a company is out, and each event of it is for the instalment that it was drawn for.
+#[tactic(auto, using(crate::proofs::OrderLaws::order_laws))]
+pub fn order_laws() -> u8
+    ensures { OrderLaws }
+{
+    0
+}
+
+/// Confirming advances the order's instalment to its company, and nothing else moves in the journal. The account loses its amount.
+pub fn confirm_law() -> u8
+    ensures { ConfirmLaw }
+{
+    0
+}
+
+/// Registering, enrolling and the other events of an order append nothing and leave the account.
+#[tactic(auto, using(crate::proofs::QuietLaws::quiet_laws))]
+pub fn quiet_laws() -> u8
+    ensures { QuietLaws }
+{
+    0
+}
+
+/// A bill changes the volume and days of its point alone, in the journal as in its row, and the account gains what line 6 does.
+pub fn bill_law() -> u8
+    ensures { BillLaw }
+{
+    0
+}
