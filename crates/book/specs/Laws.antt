@@ -15,7 +15,7 @@ use Rattle.calls.specs.declared.billing.Charged.{Charged}
 use Rattle.calls.specs.declared.enrolling.Enrolment.{Enrolment}
 use Rattle.calls.specs.Decisions.{company_at}
 use Rattle.book.specs.declared.opened.Opened.{Opened}
-use Rattle.book.specs.declared.order.Order.{Order}
+use Rattle.calls.specs.declared.call.Order.{Order}
 use Rattle.book.specs.States.{BookState}
 use Rattle.book.specs.Companies.{registered, registered_by, drawing, cancelling, sending, bouncing, moved, confirming, confirmed_by, amount_paid}
 use Rattle.book.specs.Questions.{account_of}
