@@ -16,6 +16,7 @@ use Rattle.book.specs.Tables.{written, billed_row}
 use Rattle.book.specs.Companies.{registered, registered_by, number_of, drawing, cancelling, sending, confirming, bouncing, moved, confirmed_by, amount_paid}
 use Rattle.book.specs.Rows.{filing, enrolling, billing, bill_of, billed_by}
 use Rattle.book.specs.Questions as asked
+use Rattle.book.specs.Closings.{closing, balance_of, closed_by, reopening}
 
 -- a book and the two tables that are lent to it
 pub record State : Type 0 where
@@ -56,6 +57,8 @@ answer_to filings s (call.Cancel o) = grants (cancelling s.book o) (λ d. grante
 answer_to filings s (call.Send o) = grants (sending s.book o) (λ d. granted.Sent)
 answer_to filings s (call.Confirm o) = grants (confirming s.book o) (λ d. granted.Paid (amount_paid d))
 answer_to filings s (call.Bounce o) = grants (bouncing s.book o) (λ d. granted.Bounced)
+answer_to filings s (call.Close company) = grants (balance_of (closing s.book s.localities s.points company)) granted.Closed
+answer_to filings s (call.Reopen company) = grants (reopening s.book company) (λ d. granted.Reopened)
 answer_to filings s (call.Ask q) = answer_asked s q
 
 -- the book after a call
@@ -70,34 +73,21 @@ book_after s (call.Cancel o) = moved s.book o.company (cancelling s.book o)
 book_after s (call.Send o) = moved s.book o.company (sending s.book o)
 book_after s (call.Confirm o) = confirmed_by s.book o.company (confirming s.book o)
 book_after s (call.Bounce o) = moved s.book o.company (bouncing s.book o)
+book_after s (call.Close company) = closed_by s.book company (closing s.book s.localities s.points company)
+book_after s (call.Reopen company) = moved s.book company (reopening s.book company)
 book_after s (call.Ask q) = s.book
 
 -- the locality table after a call: filing alone writes it
 abbrev pub localities_after : List LocalityRow → State → Call → List LocalityRow
-localities_after filings s (call.Register company terms) = s.localities
 localities_after filings s (call.File locality i) = written (λ l. l) s.localities locality (filing s.book s.localities locality (filed_row filings i))
-localities_after filings s (call.Enrol point e) = s.localities
-localities_after filings s (call.Bill point change) = s.localities
-localities_after filings s (call.Draw company) = s.localities
-localities_after filings s (call.Cancel o) = s.localities
-localities_after filings s (call.Send o) = s.localities
-localities_after filings s (call.Confirm o) = s.localities
-localities_after filings s (call.Bounce o) = s.localities
-localities_after filings s (call.Ask q) = s.localities
+localities_after filings s other = s.localities
 
 -- the point table after a call: enrolling and billing write it
 abbrev pub points_after : State → Call → List PointRow
-points_after s (call.Register company terms) = s.points
-points_after s (call.File locality i) = s.points
 points_after s (call.Enrol point e) = written (λ p. p) s.points point (enrolling s.book s.localities s.points point e)
 points_after s (call.Bill point change) =
     written (billed_row (slice_index_or s.points point no_point)) s.points point (bill_of (billing s.book s.localities s.points point change.volume change.days))
-points_after s (call.Draw company) = s.points
-points_after s (call.Cancel o) = s.points
-points_after s (call.Send o) = s.points
-points_after s (call.Confirm o) = s.points
-points_after s (call.Bounce o) = s.points
-points_after s (call.Ask q) = s.points
+points_after s other = s.points
 
 -- all that stands after a call
 abbrev pub after_call : List LocalityRow → State → Call → State

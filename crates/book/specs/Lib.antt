@@ -4,6 +4,7 @@ pub mod Openings
 pub mod Companies
 pub mod Rows
 pub mod Questions
+pub mod Closings
 pub mod Calls
 pub mod JournalSums
 pub mod Laws

@@ -17,6 +17,9 @@ pub enum Granted {
     /// The advance that a confirming paid.
     Paid(Cents),
     Bounced,
+    /// The balance that a closing booked.
+    Closed(Cents),
+    Reopened,
     /// In cents.
     CapitalCost(u64),
     /// In millionths of a euro.

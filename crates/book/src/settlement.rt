@@ -1,5 +1,6 @@
 // What a company's year comes to.
 ghost use Rattle.std.specs.Prelude.{◌≡◌, pos, neg_ℤ, ◌≤ℤ◌};
+ghost use Rattle.book.specs.Closings.{settled};
 ghost use Rattle.book.specs.Questions as asked;
 
 use company::record::Company;
@@ -24,6 +25,25 @@ fn settlement(
     let revenue = tables.revenue(tariff, costs, place).total().0;
     let billed = tables.sums(tariff, place).billed;
     revenue - i128::from(billed) - company.advances().0
+}
+
+/// Settles a company: its balances come to its settlement. Answers the balance that was due.
+pub(crate) fn settle(
+    tariff: &Tariff,
+    costs: Costs,
+    tables: Tables<'_>,
+    place: u64,
+    company: &mut Company,
+) -> Cents
+    requires verification { costs.verification ≡ company.old.terms.figures.verification }
+    requires central { costs.central ≡ company.old.terms.figures.central }
+    ensures due { result ≡ asked.due tariff.now.figures costs.operating.0 tables.entry.localities.now tables.entry.points.now place company.old }
+    ensures after { company.new ≡ settled company.old (asked.settlement tariff.now.figures costs.operating.0 tables.entry.localities.now tables.entry.points.now place company.old) }
+{
+    let settlement = settlement(tariff, costs, tables, place, company);
+    let due = settlement - i128::from(company.balances);
+    company.balances = settlement as i64;
+    Cents(due)
 }
 
 /// The balance that is due: the settlement, less the balances booked before.

@@ -33,6 +33,10 @@ pub enum Call {
     Confirm(Order),
     /// A sent order bounces.
     Bounce(Order),
+    /// A company's year is closed.
+    Close { company: u64 },
+    /// A closed company is reopened.
+    Reopen { company: u64 },
     Ask(Question),
 }
 

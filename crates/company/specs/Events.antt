@@ -1,10 +1,10 @@
 -- What each event meets at a company, and what it makes of it.
 use Rattle.std.specs.Prelude.{ℕ, ◌+◌, Bool, false, cond, ℤ, pos, Ok, Err, Result, ◌==◌, nat_lt}
 use Rattle.units.specs.declared.refusal.Reason.{Reason}
-use Rattle.units.specs.declared.refusal.Reason.TheVariants.{CompanyClosed, OrderOut, AllPaid, NotTheOrderOut}
+use Rattle.units.specs.declared.refusal.Reason.TheVariants.{CompanyClosed, CompanyOpen, OrderOut, AllPaid, NotTheOrderOut}
 use Rattle.company.specs.declared.record.Company.{Company}
 use Rattle.company.specs.declared.record.Event.{Event}
-use Rattle.company.specs.declared.record.Event.TheVariants.{File, Enrol, Bill, Draw, Cancel, Send, Confirm, Bounce}
+use Rattle.company.specs.declared.record.Event.TheVariants.{File, Enrol, Bill, Draw, Cancel, Send, Confirm, Bounce, Close, Reopen}
 use Rattle.company.specs.declared.record.Phase.{Phase}
 use Rattle.company.specs.declared.record.Phase.TheVariants.{Free, Drawn, Sent, Closed}
 use Rattle.company.specs.declared.terms.Terms.{Terms}
@@ -27,6 +27,18 @@ draw_answer Free paid n = cond (nat_lt paid n) (Ok (paid + 1)) (Err AllPaid)
 draw_answer (Drawn j) paid n = Err OrderOut
 draw_answer (Sent j) paid n = Err OrderOut
 draw_answer Closed paid n = Err CompanyClosed
+
+-- closing: 11 while an order is out
+abbrev pub close_answer : Phase → Result ℕ Reason
+close_answer Free = Ok 0
+close_answer (Drawn j) = Err OrderOut
+close_answer (Sent j) = Err OrderOut
+close_answer Closed = Err CompanyClosed
+
+-- reopening: 10 for a company that is open
+abbrev pub reopen_answer : Phase → Result ℕ Reason
+reopen_answer Closed = Ok 0
+reopen_answer other = Err CompanyOpen
 
 -- an order for instalment k is out and drawn
 abbrev pub drawn_for : Phase → ℕ → Bool
@@ -56,6 +68,8 @@ act_answer c (Cancel k) = order_answer (drawn_for c.phase k) k
 act_answer c (Send k) = order_answer (drawn_for c.phase k) k
 act_answer c (Confirm k) = order_answer (sent_for c.phase k) k
 act_answer c (Bounce k) = order_answer (sent_for c.phase k) k
+act_answer c Close = close_answer c.phase
+act_answer c Reopen = reopen_answer c.phase
 
 -- how the company stands after a granted event that is about instalment k
 abbrev pub phase_after : Phase → Event → (k : ℕ) → Phase
@@ -67,6 +81,8 @@ phase_after p (Cancel j) k = Free
 phase_after p (Send j) k = Sent k
 phase_after p (Confirm j) k = Free
 phase_after p (Bounce j) k = Free
+phase_after p Close k = Closed
+phase_after p Reopen k = Free
 
 -- how many instalments are paid then: confirming pays, and nothing else does
 abbrev pub paid_after : (paid : ℕ) → Event → (k : ℕ) → ℕ
@@ -78,6 +94,8 @@ paid_after paid (Cancel j) k = paid
 paid_after paid (Send j) k = paid
 paid_after paid (Confirm j) k = k
 paid_after paid (Bounce j) k = paid
+paid_after paid Close k = paid
+paid_after paid Reopen k = paid
 
 -- the record after an event that was answered so: a refused one moves nothing
 abbrev pub moved : Company → Event → Result ℕ Reason → Company

@@ -29,6 +29,8 @@ pub enum Event {
     Send(u8),
     Confirm(u8),
     Bounce(u8),
+    Close,
+    Reopen,
 }
 
 /// A company of the book.
@@ -69,12 +71,22 @@ impl Company {
         ensures after { self.new ≡ act_after self.old event }
     {
         match (self.phase, event) {
-            (Phase::Closed, Event::File | Event::Enrol | Event::Bill | Event::Draw) => {
-                Err(Reason::CompanyClosed)
-            }
+            (
+                Phase::Closed,
+                Event::File | Event::Enrol | Event::Bill | Event::Draw | Event::Close,
+            ) => Err(Reason::CompanyClosed),
             (_, Event::File | Event::Enrol | Event::Bill) => Ok(0),
             (Phase::Free, Event::Draw) => self.draw(),
-            (_, Event::Draw) => Err(Reason::OrderOut),
+            (Phase::Free, Event::Close) => {
+                self.phase = Phase::Closed;
+                Ok(0)
+            }
+            (_, Event::Draw | Event::Close) => Err(Reason::OrderOut),
+            (Phase::Closed, Event::Reopen) => {
+                self.phase = Phase::Free;
+                Ok(0)
+            }
+            (_, Event::Reopen) => Err(Reason::CompanyOpen),
             (Phase::Drawn(j), Event::Cancel(k)) if j == k => {
                 self.phase = Phase::Free;
                 Ok(k)

@@ -126,6 +126,10 @@ impl<J: Journal, M: Management> Book<J, M> {
                 .bounce(SentOrder { order })
                 .map(|_| Granted::Bounced)
                 .map_err(unsent),
+            Call::Close { company } => self
+                .close(localities, points, company)
+                .map(|cents| Granted::Closed(cents)),
+            Call::Reopen { company } => self.reopen(company).map(|_| Granted::Reopened),
             Call::Ask(question) => self.answer(localities, points, question),
         }
     }

@@ -17,7 +17,7 @@ use units::refusal::{Reason, Refusal};
 
 impl<J: Journal, M: Management> Book<J, M> {
     // Moves a company by an event of the order of a book with a number: answers the instalment.
-    fn moves(&mut self, number: u64, company: u64, event: Event) -> Result<u8, Refusal>
+    pub(super) fn moves(&mut self, number: u64, company: u64, event: Event) -> Result<u8, Refusal>
         ensures answer { result ≡ next (decided (state J.Journal M.Management self.old) number company event) (λ d. Ok d.1) }
         ensures after { state J.Journal M.Management self.new ≡ moved (state J.Journal M.Management self.old) company (decided (state J.Journal M.Management self.old) number company event) }
     {
@@ -34,7 +34,7 @@ impl<J: Journal, M: Management> Book<J, M> {
     }
 
     // The number of the book; 0 while it is not open.
-    fn number(&self) -> u64
+    pub(super) fn number(&self) -> u64
         ensures { result ≡ number_of self.now.opened }
     {
         self.opened.as_ref().map_or(0, |opened| opened.number)

@@ -1,0 +1,55 @@
+-- What closing a company's year and reopening it meet, and what they leave.
+use Rattle.std.specs.Prelude.{ℕ, List, ℤ, pos, ◌-ℤ◌, Ok, Err, Result}
+use Rattle.units.specs.declared.amounts.Cents.{Cents}
+use Rattle.units.specs.declared.refusal.Reason.TheVariants.{PastTable}
+use Rattle.units.specs.declared.refusal.Refusal.{Refusal}
+use Rattle.journal.specs.declared.entry.Entry.{Entry}
+use Rattle.journal.specs.declared.entry.Kind.TheVariants.{Balance}
+use Rattle.tables.specs.declared.rows.LocalityRow.{LocalityRow}
+use Rattle.tables.specs.declared.rows.PointRow.{PointRow}
+use Rattle.tariff.specs.declared.figures.TariffFigures.{TariffFigures}
+use Rattle.company.specs.declared.record.Company.{Company}
+use Rattle.company.specs.declared.record.Event.TheVariants.{Close, Reopen}
+use Rattle.calls.specs.Decisions.{tables_fit, deciding}
+use Rattle.calls.specs.Steps.{when, next}
+use Rattle.book.specs.States.{BookState, when_open, in_room, noted, with_company}
+use Rattle.book.specs.Companies.{number_of, decided}
+use Rattle.book.specs.Questions.{settlement, due, price_for}
+
+-- a closed company's balances come to its settlement
+abbrev pub settled : Company → ℤ → Company
+settled c z = record { terms = c.terms; paid = c.paid; phase = c.phase; balances = z }
+
+-- the company after its closing, and the balance due
+abbrev pub settling : TariffFigures → (price : ℕ) → List LocalityRow → List PointRow → (company : ℕ) → Company → Company × Cents
+settling t price localities points company c =
+    (settled c (settlement t price localities points company c), due t price localities points company c)
+
+-- closing a company: 4 for a table too long and past the sixteen, 5 where none is registered, 9 where it is closed, 11 while an order is out;
+-- it books the balance due, so that it needs room
+abbrev pub closing : BookState → List LocalityRow → List PointRow → (company : ℕ) → Result (Company × Cents) Refusal
+closing b localities points company =
+    in_room b (when_open b.opened (λ o.
+    when (tables_fit localities points) PastTable 0
+    (next (deciding o.companies o.number o.number company Close) (λ d.
+    Ok (settling o.tariff.figures (price_for b.price d.0) localities points company d.0)))))
+
+-- what closing answers: the balance
+abbrev pub balance_of : Result (Company × Cents) Refusal → Result Cents Refusal
+balance_of answer = next answer (λ d. Ok d.1)
+
+-- nothing is answered but that it was done
+abbrev pub done : {X : Type 0} → Result X Refusal → Result (Unit {0}) Refusal
+done answer = next answer (λ d. Ok tt)
+
+abbrev pub balance_entry : (company : ℕ) → Cents → Entry
+balance_entry company amount =
+    record { kind = Balance; company = company; place = 0; volume = pos 0; days = pos 0; amount = amount; ug1 = record { 0 = pos 0 }; other = record { 0 = pos 0 } }
+
+abbrev pub closed_by : BookState → (company : ℕ) → Result (Company × Cents) Refusal → BookState
+closed_by b company (Ok d) = with_company (noted b (balance_entry company d.1)) company d.0
+closed_by b company (Err refused) = b
+
+-- reopening a company: 4, 5, and 10 where it is open
+abbrev pub reopening : BookState → (company : ℕ) → Result (Company × ℕ) Refusal
+reopening b company = decided b (number_of b.opened) company Reopen
