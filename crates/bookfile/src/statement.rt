@@ -222,7 +222,8 @@ impl Statement {
             Statement::File => &FILE,
             Statement::Enrol => &ENROL,
             Statement::Bill => &BILL,
-            Statement::Draw | Statement::Served | Statement::Revenue | Statement::Balance => &COMPANY,
+            Statement::Draw | Statement::Served | Statement::Revenue | Statement::Balance =>
+                &COMPANY,
             Statement::Cancel | Statement::Send | Statement::Confirm | Statement::Bounce => &ORDER,
             Statement::Cost | Statement::Component => &SERVICE,
             Statement::Account => &NOTHING,
@@ -277,10 +278,8 @@ impl Field {
             (Statement::Bill, place) if place != 0 => Kind::Change,
             (Statement::Distribution | Statement::Metering, 0) => Kind::OneOfEight,
             (Statement::Coefficient | Statement::Life, 0) => Kind::OneOfEight,
-            (
-                Statement::Cancel | Statement::Send | Statement::Confirm | Statement::Bounce,
-                2,
-            ) => Kind::Byte,
+            (Statement::Cancel | Statement::Send | Statement::Confirm | Statement::Bounce, 2) =>
+                Kind::Byte,
             (Statement::Cost | Statement::Component, 1) => Kind::OneOrTwo,
             _ => Kind::Whole,
         }
@@ -291,10 +290,8 @@ impl Field {
         ensures { result ≡ needed self.statement self.place }
     {
         match self.statement {
-            Statement::Tariff
-            | Statement::Management
-            | Statement::Opening
-            | Statement::Account => false,
+            Statement::Tariff | Statement::Management | Statement::Opening | Statement::Account =>
+                false,
             Statement::Distribution | Statement::Metering | Statement::Enrol => self.place < 4,
             Statement::Bracket
             | Statement::Coefficient

@@ -22,9 +22,8 @@ impl fmt::Display for About {
             } => write!(f, "point {point}"),
             Call::Bill { point, change: _ } => write!(f, "bill of point {point}"),
             Call::Draw { company } => write!(f, "order for company {company}"),
-            Call::Cancel(order) | Call::Send(order) | Call::Confirm(order) | Call::Bounce(order) => {
-                write_order(f, order)
-            }
+            Call::Cancel(order) | Call::Send(order) | Call::Confirm(order) | Call::Bounce(order) =>
+                { write_order(f, order) }
             Call::Ask(question) => write_question(f, question),
         }
     }
@@ -44,7 +43,11 @@ fn write_question<W: fmt::Write>(f: &mut fmt::Formatter<W>, question: Question) 
             write!(f, "capital cost of {}, locality {locality}", name(service))
         }
         Question::UnitComponent { locality, service } => {
-            write!(f, "unit component of {}, locality {locality}", name(service))
+            write!(
+                f,
+                "unit component of {}, locality {locality}",
+                name(service)
+            )
         }
         Question::Served { company } => write!(f, "points served by company {company}"),
         Question::Revenue { company } => write!(f, "recognised revenue of company {company}"),

@@ -7,7 +7,8 @@ ghost use Rattle.bookfile.specs.Slots.{Puts};
 ghost use Rattle.bookfile.specs.Tables.{empty_table, next_bracket, span_of, table_after};
 
 use super::{
-    BRACKETS, CAPACITY, COEFFICIENTS, DISTRIBUTION, LIVES, MANAGEMENT, METERING, OPENING, SLOTS, Table,
+    BRACKETS, CAPACITY, COEFFICIENTS, DISTRIBUTION, LIVES, MANAGEMENT, METERING, OPENING, SLOTS,
+    Table,
 };
 use crate::line::Line;
 use crate::malformed::Malformed;
