@@ -47,3 +47,11 @@ payment_in e = cond (is_bill e.kind) (pos 0) e.amount.0
 -- all advances and balances, added up
 abbrev pub payments : List Entry → ℤ
 payments es = sum_z payment_in es
+
+-- what an entry pays to a company
+abbrev pub payment_to : (company : ℕ) → Entry → ℤ
+payment_to company e = cond (e.company == company) (payment_in e) (pos 0)
+
+-- the advances and balances of a company, added up
+abbrev pub paid_to : List Entry → (company : ℕ) → ℤ
+paid_to es company = sum_z (payment_to company) es
