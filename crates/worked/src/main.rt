@@ -3,6 +3,7 @@
 
 mod bills;
 mod compare;
+mod instalments;
 mod localities;
 mod numbers;
 mod rules;
@@ -17,7 +18,8 @@ fn run(rt: &HostRuntime) -> anyhow::Result<()> {
     localities::run(rt)?;
     served::run(rt)?;
     rules::run(rt)?;
-    rules::boundaries(rt)
+    rules::boundaries(rt)?;
+    instalments::run(rt)
 }
 
 fn main(rt: HostRuntime) -> anyhow::Result<()> {
