@@ -5,9 +5,9 @@ use company::figures::TermsFigures;
 use company::terms::Terms;
 use units::amounts::Cents;
 
-// The terms with an advance in so many instalments, and the least of all else.
-fn terms(advance: i64, instalments: u64) -> anyhow::Result<Terms> {
-    let figures = TermsFigures {
+/// An advance in so many instalments, and the least of all else.
+pub fn figures(advance: i64, instalments: u64) -> TermsFigures {
+    TermsFigures {
         advance,
         instalments,
         verification: 0,
@@ -15,14 +15,13 @@ fn terms(advance: i64, instalments: u64) -> anyhow::Result<Terms> {
         points: 0,
         density: 1,
         year: 1,
-    };
-    Ok(Terms::try_from(figures)?)
+    }
 }
 
 fn compare_line(tally: &mut Tally<'_>, line: &str) -> anyhow::Result<()> {
     let mut numbers = Numbers::of(line);
     let (advance, count) = (numbers.take()?, numbers.take::<u8>()?);
-    let terms = terms(advance, u64::from(count))?;
+    let terms = Terms::try_from(figures(advance, u64::from(count)))?;
     for j in 1..=count {
         tally.compare("instalment", terms.instalment(j), Cents(numbers.take()?))?;
     }

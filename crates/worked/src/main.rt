@@ -1,4 +1,4 @@
-// Worked figures: those of the worked year as theorems, and tables of independently computed ones, run and compared.
+// Worked figures: those of the worked year as theorems, tables of independently computed ones, run and compared, and a tour through a book.
 #![tactic(auto)]
 
 mod bills;
@@ -9,6 +9,7 @@ mod numbers;
 mod rules;
 mod served;
 mod tariffs;
+mod tour;
 mod year;
 
 fn run(rt: &HostRuntime) -> anyhow::Result<()> {
@@ -19,7 +20,8 @@ fn run(rt: &HostRuntime) -> anyhow::Result<()> {
     served::run(rt)?;
     rules::run(rt)?;
     rules::boundaries(rt)?;
-    instalments::run(rt)
+    instalments::run(rt)?;
+    tour::run(rt)
 }
 
 fn main(rt: HostRuntime) -> anyhow::Result<()> {
