@@ -1,6 +1,6 @@
 -- Which orders a book takes back.
 use Rattle.std.specs.Prelude.{IsOk}
-use Rattle.book.specs.declared.order.Order.{Order}
+use Rattle.calls.specs.declared.call.Order.{Order}
 use Rattle.book.specs.States.{BookState}
 use Rattle.book.specs.Companies.{cancelling, bouncing}
 

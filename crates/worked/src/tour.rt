@@ -16,7 +16,6 @@ use journal::kept::Journal;
 use journal::own::OwnJournal;
 use management::municipal::Municipal;
 use management::rule::Management;
-use std::mem::ManuallyDrop;
 use tables::rows::{AssetRow, LocalityRow, MOST_POINTS, PointRow};
 use tariff::table::Tariff;
 use units::amounts::PointPrice;
@@ -41,14 +40,7 @@ pub fn run(rt: &HostRuntime) -> anyhow::Result<()> {
     straying(&mut lines, &mut book, &mut other, tariff);
     paying(&mut lines, &mut book);
     full_journal(&mut lines, &mut book);
-    leave(book);
-    leave(other);
     Ok(lines.finish()?)
-}
-
-// A book is not `Drop`, and no call ends one: it is left where it is.
-fn leave<J: Journal, M: Management>(keeper: Keeper<'_, J, M>) {
-    let _left = unsafe { ManuallyDrop::new_unchecked(keeper) };
 }
 
 // The company of the worked year.

@@ -7,6 +7,7 @@ use std::fmt::Display;
 use tables::rows::{LocalityRow, PointRow};
 use units::refusal::Refusal;
 
+#[derive(Drop)]
 pub struct Keeper<'a, J: Journal, M: Management> {
     /// What stands before each line.
     pub at: &'a str,
