@@ -11,16 +11,28 @@ use units::amounts::PointPrice;
 #[derive(Clone, Copy, Debug, PartialEq, Eq)]
 pub struct Weights(pub u64, pub u64);
 
+// Of award years 1 to 12, one entry a year.
+const WEIGHTS: [Weights; 12] = [
+    Weights(2, 2),
+    Weights(2, 2),
+    Weights(2, 2),
+    Weights(2, 2),
+    Weights(1, 3),
+    Weights(0, 4),
+    Weights(0, 4),
+    Weights(0, 4),
+    Weights(0, 4),
+    Weights(0, 4),
+    Weights(0, 4),
+    Weights(0, 4),
+];
+
 impl Weights {
     /// The weights of the award year of these traits.
     pub fn of(traits: Traits) -> Weights
         ensures { result ≡ weights_of traits.year }
     {
-        match traits.year {
-            ..=4 => Weights(2, 2),
-            5 => Weights(1, 3),
-            _ => Weights(0, 4),
-        }
+        WEIGHTS[traits.year as usize - 1]
     }
 
     /// The medium and the large price by their weights: a quarter of their sum, rounded once.

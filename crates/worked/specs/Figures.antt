@@ -1,5 +1,5 @@
 -- What the figures of the worked year are, one by one.
-use Rattle.std.specs.Prelude.{◌≡◌, true, [], ◌∷◌, pos, None}
+use Rattle.std.specs.Prelude.{◌≡◌, true, List, [], ◌∷◌, ℤ, pos, neg_ℤ, None}
 use Rattle.tariff.specs.Limits.{first_bad_figure}
 use Rattle.tariff.specs.Bills.{amounts_of, charge_between}
 use Rattle.tariff.specs.declared.bill.Amounts.{Amounts}
@@ -9,6 +9,7 @@ use Rattle.tables.specs.declared.service.Service.TheVariants.{Distribution, Mete
 use Rattle.tables.specs.declared.state.State.TheVariants.{Regime}
 use Rattle.revenue.specs.Served.{served}
 use Rattle.revenue.specs.Recognised.{recognised_revenue}
+use Rattle.company.specs.Instalments.{instalment}
 use Rattle.worked.specs.Year.{worked_table, worked_supply, worked_locality, worked_point}
 
 abbrev at_start : Amounts
@@ -19,6 +20,10 @@ after_first = amounts_of worked_table worked_supply 500 73
 
 abbrev after_second : Amounts
 after_second = amounts_of worked_table worked_supply 500 146
+
+-- a yearly advance in three instalments
+abbrev thirds : ℤ → List ℤ
+thirds advance = instalment advance 3 1 ∷ instalment advance 3 2 ∷ instalment advance 3 3 ∷ []
 
 pub record Worked : Type 0 where
   -- the table keeps every limit
@@ -41,3 +46,6 @@ pub record Worked : Type 0 where
   pub served_73_days : served worked_table (worked_locality ∷ []) (worked_point 500 73 ∷ []) 0 Regime ≡ 203
   -- revenue at an operating price of 30,000,000, without verification and at a central cost of 1,000
   pub revenue : recognised_revenue worked_table 30000000 0 1000 (worked_locality ∷ []) (worked_point 500 146 ∷ []) 0 ≡ 141421
+  -- an advance that does not divide by three: the instalments are cut downwards, on either side of 0
+  pub thirds_paid_out : thirds (pos 100000) ≡ pos 33333 ∷ pos 33333 ∷ pos 33334 ∷ []
+  pub thirds_paid_in : thirds (neg_ℤ (pos 100000)) ≡ neg_ℤ (pos 33334) ∷ neg_ℤ (pos 33333) ∷ neg_ℤ (pos 33333) ∷ []

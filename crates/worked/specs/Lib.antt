@@ -1,2 +1,3 @@
 pub mod Year
 pub mod Figures
+pub mod Orders

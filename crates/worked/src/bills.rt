@@ -7,13 +7,16 @@ use tariff::supply::{Change, Reading, Supply};
 use tariff::table::Tariff;
 
 // The table has 1 for a domestic customer.
-fn supply(numbers: &mut Numbers) -> anyhow::Result<Supply> {
-    Supply::new(numbers.take()?, numbers.take()?, numbers.take()? == 1).ok_or(anyhow!(
-        "an area or class beyond its limits"
-    ))
+fn supply(numbers: &mut Numbers<'_>) -> anyhow::Result<Supply> {
+    Supply::new(
+        numbers.take()?,
+        numbers.take()?,
+        numbers.take::<u64>()? == 1,
+    )
+    .ok_or(anyhow!("an area or class beyond its limits"))
 }
 
-fn reading(numbers: &mut Numbers) -> anyhow::Result<Reading> {
+fn reading(numbers: &mut Numbers<'_>) -> anyhow::Result<Reading> {
     Reading::new(numbers.take()?, numbers.take()?).ok_or(anyhow!(
         "a volume or days beyond their limits"
     ))
@@ -22,7 +25,7 @@ fn reading(numbers: &mut Numbers) -> anyhow::Result<Reading> {
 fn compare_line(
     tally: &mut Tally<'_>,
     table: &Tariff,
-    numbers: &mut Numbers,
+    numbers: &mut Numbers<'_>,
 ) -> anyhow::Result<()> {
     let supply = supply(numbers)?;
     let found = table.amounts(supply, reading(numbers)?);
@@ -47,8 +50,8 @@ pub fn run(rt: &HostRuntime) -> anyhow::Result<()> {
 pub fn boundaries(rt: &HostRuntime) -> anyhow::Result<()> {
     let tables = tariffs(rt)?;
     let table = tables.get(0).ok_or_else(|| anyhow!("no tariff table"))?;
-    let supply = supply(&mut Numbers::of(rt.alloc(), "1 1 0")?)?;
-    let start = reading(&mut Numbers::of(rt.alloc(), "0 0")?)?;
+    let supply = supply(&mut Numbers::of("1 1 0"))?;
+    let start = reading(&mut Numbers::of("0 0"))?;
     for days in [365, 366] {
         match table.bill(supply, start, Change { volume: 0, days }) {
             Ok(bill) => println!(rt; "{days} days: {} cents", bill.charge.tariff)?,

@@ -1,4 +1,5 @@
 // A table of figures, compared line by line.
+use std::fmt::Display;
 use std::fs;
 
 /// A count of compared figures; each that differs is printed.
@@ -12,7 +13,12 @@ pub struct Tally<'a> {
 
 impl<'a> Tally<'a> {
     /// Counts a figure, and prints it where it is not the expected one.
-    pub fn compare(&mut self, what: &str, found: u64, expected: u64) -> anyhow::Result<()> {
+    pub fn compare<T: Copy + PartialEq + Display>(
+        &mut self,
+        what: &str,
+        found: T,
+        expected: T,
+    ) -> anyhow::Result<()> {
         if found == expected {
             self.agree = self.agree.saturating_add(1);
             return Ok(());

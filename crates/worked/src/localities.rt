@@ -9,7 +9,7 @@ use tables::rows::{AssetRow, LocalityRow, Row};
 use tables::service::Service;
 use tariff::table::Tariff;
 
-fn asset_row(numbers: &mut Numbers) -> anyhow::Result<AssetRow> {
+fn asset_row(numbers: &mut Numbers<'_>) -> anyhow::Result<AssetRow> {
     Ok(AssetRow {
         gross: numbers.take()?,
         net: numbers.take()?,
@@ -19,7 +19,7 @@ fn asset_row(numbers: &mut Numbers) -> anyhow::Result<AssetRow> {
     })
 }
 
-fn locality(numbers: &mut Numbers) -> anyhow::Result<Locality> {
+fn locality(numbers: &mut Numbers<'_>) -> anyhow::Result<Locality> {
     let row = LocalityRow {
         company: 0,
         state: numbers.take()?,
@@ -42,7 +42,7 @@ fn component(locality: &Locality, table: &Tariff, service: Service) -> u64 {
 fn compare_line(
     tally: &mut Tally<'_>,
     table: &Tariff,
-    numbers: &mut Numbers,
+    numbers: &mut Numbers<'_>,
 ) -> anyhow::Result<()> {
     let locality = locality(numbers)?;
     for (what, found) in [

@@ -1,13 +1,15 @@
-// Worked figures: those of the worked year as theorems, and tables of independently computed ones, run and compared.
+// Worked figures: those of the worked year as theorems, tables of independently computed ones, run and compared, and a tour through a book.
 #![tactic(auto)]
 
 mod bills;
 mod compare;
+mod instalments;
 mod localities;
 mod numbers;
 mod rules;
 mod served;
 mod tariffs;
+mod tour;
 mod year;
 
 fn run(rt: &HostRuntime) -> anyhow::Result<()> {
@@ -17,7 +19,9 @@ fn run(rt: &HostRuntime) -> anyhow::Result<()> {
     localities::run(rt)?;
     served::run(rt)?;
     rules::run(rt)?;
-    rules::boundaries(rt)
+    rules::boundaries(rt)?;
+    instalments::run(rt)?;
+    tour::run(rt)
 }
 
 fn main(rt: HostRuntime) -> anyhow::Result<()> {

@@ -1,29 +1,25 @@
 // The numbers of a line of a table.
 use anyhow::anyhow;
-use std::alloc::Global;
-use std::vec::IntoIter;
+use std::num::ParseIntError;
+use std::str::{FromStr, SplitWhitespace};
 
 /// Numbers that are taken one after the other.
 #[derive(Drop)]
-pub struct Numbers {
-    rest: IntoIter<u64>,
+pub struct Numbers<'a> {
+    rest: SplitWhitespace<'a>,
 }
 
-impl Numbers {
-    pub fn of(heap: Global, line: &str) -> anyhow::Result<Numbers> {
-        let mut list = Vec::new(heap);
-        for word in line.split_whitespace() {
-            list.push(word.parse::<u64>()?)
-                .map_err(|_| anyhow!("no memory"))?;
+impl<'a> Numbers<'a> {
+    pub fn of(line: &'a str) -> Numbers<'a> {
+        Numbers {
+            rest: line.split_whitespace(),
         }
-        Ok(Numbers {
-            rest: list.into_iter(),
-        })
     }
 
-    /// The next number; an error past the last.
-    pub fn take(&mut self) -> anyhow::Result<u64> {
-        self.rest.next().ok_or_else(wrong_count)
+    /// The next number, of the kind that is asked for; an error past the last.
+    pub fn take<N: FromStr<Err = ParseIntError>>(&mut self) -> anyhow::Result<N> {
+        let word = self.rest.next().ok_or_else(wrong_count)?;
+        Ok(word.parse::<N>()?)
     }
 
     /// The next numbers, each made into what it is the number of.

@@ -6,7 +6,6 @@ use management::area_wide::AreaWide;
 use management::municipal::Municipal;
 use management::rule::Management;
 use management::traits::Traits;
-use std::alloc::Global;
 use units::amounts::PointPrice;
 use units::refusal::Refusal;
 
@@ -24,7 +23,7 @@ fn price_by<M: Management + TryFrom<[PointPrice; 9], Error = Refusal> + Drop>(
     Ok(rule.operating_price(traits).0)
 }
 
-fn price_of(kind: &str, numbers: &mut Numbers) -> anyhow::Result<u64> {
+fn price_of(kind: &str, numbers: &mut Numbers<'_>) -> anyhow::Result<u64> {
     let prices = numbers.list(PointPrice)?;
     let (points, density, year) = (numbers.take()?, numbers.take()?, numbers.take()?);
     match kind {
@@ -34,20 +33,18 @@ fn price_of(kind: &str, numbers: &mut Numbers) -> anyhow::Result<u64> {
     }
 }
 
-fn compare_line(heap: Global, tally: &mut Tally<'_>, line: &str) -> anyhow::Result<()> {
+fn compare_line(tally: &mut Tally<'_>, line: &str) -> anyhow::Result<()> {
     let (kind, rest) = line
         .split_once(' ')
         .ok_or_else(|| anyhow!("a rule without its prices"))?;
-    let mut numbers = Numbers::of(heap, rest)?;
+    let mut numbers = Numbers::of(rest);
     let found = price_of(kind, &mut numbers)?;
     tally.compare("operating price", found, numbers.take()?)?;
     numbers.finish()
 }
 
 pub fn run(rt: &HostRuntime) -> anyhow::Result<()> {
-    compare_table(rt, "management.txt", |tally, line| {
-        compare_line(rt.alloc(), tally, line)
-    })
+    compare_table(rt, "management.txt", compare_line)
 }
 
 pub fn boundaries(rt: &HostRuntime) -> anyhow::Result<()> {

@@ -8,14 +8,14 @@ use revenue::served::Served;
 use tariff::table::Tariff;
 use units::amounts::PointPrice;
 
-fn served(numbers: &mut Numbers, table: &Tariff) -> anyhow::Result<Served> {
+fn served(numbers: &mut Numbers<'_>, table: &Tariff) -> anyhow::Result<Served> {
     Served::of(table, numbers.take()?, numbers.take()?).ok_or_else(|| anyhow!(
         "more served points than a book can have"
     ))
 }
 
 // The operating price alone: verification and central cost are none.
-fn costs(numbers: &mut Numbers) -> anyhow::Result<Costs> {
+fn costs(numbers: &mut Numbers<'_>) -> anyhow::Result<Costs> {
     Costs::new(PointPrice(numbers.take()?), 0, 0).ok_or_else(|| anyhow!(
         "an operating price beyond its limit"
     ))
@@ -24,7 +24,7 @@ fn costs(numbers: &mut Numbers) -> anyhow::Result<Costs> {
 fn compare_line(
     tally: &mut Tally<'_>,
     table: &Tariff,
-    numbers: &mut Numbers,
+    numbers: &mut Numbers<'_>,
 ) -> anyhow::Result<()> {
     let served = served(numbers, table)?;
     let found = served.revenue(table, costs(numbers)?, 0);

@@ -2,7 +2,6 @@
 use crate::compare::{Tally, compare_table};
 use crate::numbers::Numbers;
 use anyhow::anyhow;
-use std::alloc::Global;
 use std::{array, fs};
 use tariff::figures::{Bracket, Coefficient, Life, Rate, TariffFigures};
 use tariff::table::Tariff;
@@ -10,13 +9,12 @@ use units::amounts::{PointPrice, VolumePrice};
 
 /// The tables of a file.
 pub fn tariffs(rt: &HostRuntime) -> anyhow::Result<Vec<Tariff>> {
-    let heap = rt.alloc();
     let text = fs::read_to_string(rt, "tariffs.txt")?;
-    let mut tables = Vec::new(heap);
+    let mut tables = Vec::new(rt.alloc());
     for line in text.as_str().lines() {
         if !line.starts_with('#') {
             tables
-                .push(tariff(heap, line)?)
+                .push(tariff(line)?)
                 .map_err(|_| anyhow!("no memory"))?;
         }
     }
@@ -24,16 +22,14 @@ pub fn tariffs(rt: &HostRuntime) -> anyhow::Result<Vec<Tariff>> {
 }
 
 /// Compares the lines of a table of figures, each by the tariff table whose number it begins with.
-pub(crate) fn compare_by_tariff<F: Fn(&mut Tally<'_>, &Tariff, &mut Numbers) -> anyhow::Result<()>>(
-    rt: &HostRuntime,
-    name: &str,
-    compare_line: F,
-) -> anyhow::Result<()>
+pub(crate) fn compare_by_tariff<
+    F: Fn(&mut Tally<'_>, &Tariff, &mut Numbers<'_>) -> anyhow::Result<()>,
+>(rt: &HostRuntime, name: &str, compare_line: F) -> anyhow::Result<()>
     requires { F.IsAlwaysCallable compare_line }
 {
     let tables = tariffs(rt)?;
     compare_table(rt, name, |tally, line| {
-        let mut numbers = Numbers::of(rt.alloc(), line)?;
+        let mut numbers = Numbers::of(line);
         let table = table_at(tables.as_slice(), numbers.take()?)?;
         compare_line(tally, table, &mut numbers)?;
         numbers.finish()
@@ -47,14 +43,14 @@ pub fn table_at(tables: &[Tariff], number: u64) -> anyhow::Result<&Tariff> {
         .ok_or_else(|| anyhow!("no such tariff table"))
 }
 
-fn tariff(heap: Global, line: &str) -> anyhow::Result<Tariff> {
-    let mut numbers = Numbers::of(heap, line)?;
+fn tariff(line: &str) -> anyhow::Result<Tariff> {
+    let mut numbers = Numbers::of(line);
     let figures = tariff_figures(&mut numbers)?;
     numbers.finish()?;
     Tariff::try_from(figures).map_err(|_| anyhow!("a tariff table is refused"))
 }
 
-fn brackets(numbers: &mut Numbers, count: usize) -> anyhow::Result<[Bracket; 8]> {
+fn brackets(numbers: &mut Numbers<'_>, count: usize) -> anyhow::Result<[Bracket; 8]> {
     let mut brackets = [Bracket {
         end: 0,
         reference: VolumePrice(0),
@@ -69,12 +65,12 @@ fn brackets(numbers: &mut Numbers, count: usize) -> anyhow::Result<[Bracket; 8]>
     Ok(brackets)
 }
 
-fn tariff_figures(numbers: &mut Numbers) -> anyhow::Result<TariffFigures> {
+fn tariff_figures(numbers: &mut Numbers<'_>) -> anyhow::Result<TariffFigures> {
     let days = numbers.take()?;
     let distribution = numbers.list(PointPrice)?;
     let metering = numbers.list(PointPrice)?;
     let commercial = PointPrice(numbers.take()?);
-    let count = numbers.take()? as usize;
+    let count = numbers.take()?;
     Ok(TariffFigures {
         days,
         distribution,

@@ -5,10 +5,11 @@ use Rattle.tables.specs.Filings.{limit_fault, odds_fault, locality_stands}
 use Rattle.tables.specs.PointRows.{point_stands}
 use Rattle.revenue.specs.Served.{commercial_cents}
 use Rattle.revenue.specs.Recognised.{locality_figures, recognised}
+use Rattle.company.specs.Instalments.{paid_up_to}
 use Rattle.worked.proofs.year.worked_year.Goals as goal
 
 pub returns : goal.returns
-unfolding rounded half_up fixed_tests variable_tests cost_tests first_bad_figure limit_fault odds_fault locality_stands point_stands commercial_cents locality_figures recognised
+unfolding rounded half_up fixed_tests variable_tests cost_tests first_bad_figure limit_fault odds_fault locality_stands point_stands commercial_cents locality_figures recognised paid_up_to
 returns c =
     record {
       lawful = refl;
@@ -25,4 +26,6 @@ returns c =
       served_146_days = refl;
       served_73_days = refl;
       revenue = refl;
+      thirds_paid_out = refl;
+      thirds_paid_in = refl;
     }
