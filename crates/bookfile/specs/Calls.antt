@@ -12,7 +12,7 @@ use Rattle.calls.specs.declared.call.Question.TheVariants as question
 use Rattle.tables.specs.declared.service.Service.{Service}
 use Rattle.tables.specs.declared.service.Service.TheVariants.{Distribution, Metering}
 use Rattle.bookfile.specs.declared.statement.Statement.{Statement}
-use Rattle.bookfile.specs.declared.statement.Statement.TheVariants.{Register, File, Enrol, Bill, Draw, Cancel, Send, Confirm, Bounce, Cost, Component, Served, Revenue, Balance, Account}
+use Rattle.bookfile.specs.declared.statement.Statement.TheVariants.{Register, File, Enrol, Bill, Draw, Cancel, Send, Confirm, Bounce, Close, Reopen, Cost, Component, Served, Revenue, Balance, Account}
 use Rattle.bookfile.specs.Numbers.{whole_at, change_at}
 
 abbrev pub terms_of : List (Option ℤ) → TermsFigures
@@ -61,4 +61,6 @@ call_of filings Cancel zs = Some (call.Cancel (order_of zs))
 call_of filings Send zs = Some (call.Send (order_of zs))
 call_of filings Confirm zs = Some (call.Confirm (order_of zs))
 call_of filings Bounce zs = Some (call.Bounce (order_of zs))
+call_of filings Close zs = Some (call.Close (whole_at zs 0))
+call_of filings Reopen zs = Some (call.Reopen (whole_at zs 0))
 call_of filings other zs = option_map call.Ask (question_of other zs)

@@ -8,7 +8,7 @@ use Rattle.std.specs.Str.{NoCharPasses, EmptyOrStartsWithPassing}
 use Rattle.bookfile.specs.declared.malformed.Malformed.{Malformed}
 use Rattle.bookfile.specs.declared.malformed.Malformed.TheVariants.{Keyword}
 use Rattle.bookfile.specs.declared.statement.Statement.{Statement}
-use Rattle.bookfile.specs.declared.statement.Statement.TheVariants.{Tariff, Distribution, Metering, Bracket, Coefficient, Life, Management, Opening, Journal, Register, File, Enrol, Bill, Draw, Cancel, Send, Confirm, Bounce, Cost, Component, Served, Revenue, Balance, Account}
+use Rattle.bookfile.specs.declared.statement.Statement.TheVariants.{Tariff, Distribution, Metering, Bracket, Coefficient, Life, Management, Opening, Journal, Register, File, Enrol, Bill, Draw, Cancel, Send, Confirm, Bounce, Close, Reopen, Cost, Component, Served, Revenue, Balance, Account}
 
 abbrev pub keyword_of : Statement → List ℕ
 keyword_of Tariff = codes "tariff"
@@ -29,6 +29,8 @@ keyword_of Cancel = codes "cancel"
 keyword_of Send = codes "send"
 keyword_of Confirm = codes "confirm"
 keyword_of Bounce = codes "bounce"
+keyword_of Close = codes "close"
+keyword_of Reopen = codes "reopen"
 keyword_of Cost = codes "cost"
 keyword_of Component = codes "component"
 keyword_of Served = codes "served"
@@ -70,6 +72,8 @@ names_of Cancel = order_names
 names_of Send = order_names
 names_of Confirm = order_names
 names_of Bounce = order_names
+names_of Close = codes "company" ∷ []
+names_of Reopen = codes "company" ∷ []
 names_of Cost = codes "locality" ∷ codes "service" ∷ []
 names_of Component = codes "locality" ∷ codes "service" ∷ []
 names_of Served = codes "company" ∷ []

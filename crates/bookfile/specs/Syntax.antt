@@ -3,7 +3,7 @@ use Rattle.std.specs.Prelude.{◌≡◌, ℕ, ◌<◌, Bool, true, false, cond, 
 use Rattle.bookfile.specs.declared.statement.Kind.{Kind}
 use Rattle.bookfile.specs.declared.statement.Kind.TheVariants.{Whole, Byte, Change, OneOfEight, OneOrTwo, ZeroOrOne}
 use Rattle.bookfile.specs.declared.statement.Statement.{Statement}
-use Rattle.bookfile.specs.declared.statement.Statement.TheVariants.{Tariff, Distribution, Metering, Bracket, Coefficient, Life, Management, Opening, Journal, Register, File, Enrol, Bill, Draw, Cancel, Send, Confirm, Bounce, Cost, Component, Served, Revenue, Balance, Account}
+use Rattle.bookfile.specs.declared.statement.Statement.TheVariants.{Tariff, Distribution, Metering, Bracket, Coefficient, Life, Management, Opening, Journal, Register, File, Enrol, Bill, Draw, Cancel, Send, Confirm, Bounce, Close, Reopen, Cost, Component, Served, Revenue, Balance, Account}
 
 -- what number the figure at a place may be
 abbrev pub kind_of : Statement → ℕ → Kind
@@ -43,6 +43,8 @@ needed Cancel i = nat_lt i 3
 needed Send i = nat_lt i 3
 needed Confirm i = nat_lt i 3
 needed Bounce i = nat_lt i 3
+needed Close i = nat_lt i 1
+needed Reopen i = nat_lt i 1
 needed Cost i = nat_lt i 2
 needed Component i = nat_lt i 2
 needed Served i = nat_lt i 1

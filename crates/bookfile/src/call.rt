@@ -37,6 +37,8 @@ pub(crate) fn call_of(line: &Line, filings: usize) -> Option<Call>
         Statement::Send => Some(Call::Send(order_of(line))),
         Statement::Confirm => Some(Call::Confirm(order_of(line))),
         Statement::Bounce => Some(Call::Bounce(order_of(line))),
+        Statement::Close => Some(Call::Close { company: place }),
+        Statement::Reopen => Some(Call::Reopen { company: place }),
         _ => question_of(line).map(|question| Call::Ask(question)),
     }
 }

@@ -28,6 +28,8 @@ pub enum Statement {
     Send,
     Confirm,
     Bounce,
+    Close,
+    Reopen,
     Cost,
     Component,
     Served,
@@ -191,6 +193,8 @@ impl FromStr for Statement {
             "send" => Ok(Statement::Send),
             "confirm" => Ok(Statement::Confirm),
             "bounce" => Ok(Statement::Bounce),
+            "close" => Ok(Statement::Close),
+            "reopen" => Ok(Statement::Reopen),
             "cost" => Ok(Statement::Cost),
             "component" => Ok(Statement::Component),
             "served" => Ok(Statement::Served),
@@ -222,8 +226,12 @@ impl Statement {
             Statement::File => &FILE,
             Statement::Enrol => &ENROL,
             Statement::Bill => &BILL,
-            Statement::Draw | Statement::Served | Statement::Revenue | Statement::Balance =>
-                &COMPANY,
+            Statement::Draw
+            | Statement::Close
+            | Statement::Reopen
+            | Statement::Served
+            | Statement::Revenue
+            | Statement::Balance => &COMPANY,
             Statement::Cancel | Statement::Send | Statement::Confirm | Statement::Bounce => &ORDER,
             Statement::Cost | Statement::Component => &SERVICE,
             Statement::Account => &NOTHING,
@@ -257,6 +265,8 @@ impl Statement {
             Statement::Send => "send book=7 company=0 instalment=1",
             Statement::Confirm => "confirm book=7 company=0 instalment=1",
             Statement::Bounce => "bounce book=7 company=0 instalment=1",
+            Statement::Close => "close company=0",
+            Statement::Reopen => "reopen company=0",
             Statement::Cost => "cost locality=0 service=1",
             Statement::Component => "component locality=0 service=1",
             Statement::Served => "served company=0",
@@ -307,6 +317,8 @@ impl Field {
             | Statement::Bounce => self.place < 3,
             Statement::Journal
             | Statement::Draw
+            | Statement::Close
+            | Statement::Reopen
             | Statement::Served
             | Statement::Revenue
             | Statement::Balance => self.place < 1,

@@ -24,6 +24,8 @@ impl fmt::Display for About {
             Call::Draw { company } => write!(f, "order for company {company}"),
             Call::Cancel(order) | Call::Send(order) | Call::Confirm(order) | Call::Bounce(order) =>
                 { write_order(f, order) }
+            Call::Close { company } => write!(f, "closing of company {company}"),
+            Call::Reopen { company } => write!(f, "reopening of company {company}"),
             Call::Ask(question) => write_question(f, question),
         }
     }
@@ -76,6 +78,8 @@ impl About {
             Call::Send(_) => Statement::Send,
             Call::Confirm(_) => Statement::Confirm,
             Call::Bounce(_) => Statement::Bounce,
+            Call::Close { .. } => Statement::Close,
+            Call::Reopen { .. } => Statement::Reopen,
             Call::Ask(question) => statement_of(question),
         }
     }

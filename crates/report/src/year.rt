@@ -1,7 +1,7 @@
 // What a year comes to, in print: the costs of each locality, and the revenue that is recognised to each company.
 use crate::answer::state_words;
 use book::book::Book;
-use company::record::Company;
+use company::record::{Company, Phase};
 use journal::kept::Journal;
 use management::rule::Management;
 use revenue::parts::Revenue;
@@ -97,13 +97,26 @@ pub fn write_company<W: fmt::Write, J: Journal, M: Management>(
     };
     writeln!(
         out,
-        "\ncompany {place}: {} points served in regime, {} in start-up",
-        year.served.regime, year.served.startup
+        "\ncompany {place}, {}: {} points served in regime, {} in start-up",
+        phase_words(year.company.phase),
+        year.served.regime,
+        year.served.startup
     )?;
     write_revenue(out, &year.revenue)?;
     write_amount(out, "less lines 1 to 4 billed", year.billed)?;
     write_amount(out, "less advances", year.company.advances())?;
+    write_amount(out, "less balances", Cents(i128::from(year.company.balances)))?;
     write_amount(out, "balance due", year.due)
+}
+
+// How a company stands.
+fn phase_words(phase: Phase) -> &'static str {
+    match phase {
+        Phase::Free => "open",
+        Phase::Drawn(_) => "open with an order drawn",
+        Phase::Sent(_) => "open with an order sent",
+        Phase::Closed => "closed",
+    }
 }
 
 /// The equalisation account.
