@@ -10,6 +10,9 @@ use Rattle.tables.specs.declared.state.State.TheVariants.{Regime}
 use Rattle.revenue.specs.Served.{served}
 use Rattle.revenue.specs.Recognised.{recognised_revenue}
 use Rattle.company.specs.Instalments.{instalment}
+use Rattle.book.specs.Closings.{closing, balance_of}
+use Rattle.book.specs.Questions.{account}
+use Rattle.worked.specs.Closings.{worked_localities, before_closing, points_before, closed_once, corrected, points_after, closed_again}
 use Rattle.worked.specs.Year.{worked_table, worked_supply, worked_locality, worked_point}
 
 abbrev at_start : Amounts
@@ -49,3 +52,9 @@ pub record Worked : Type 0 where
   -- an advance that does not divide by three: the instalments are cut downwards, on either side of 0
   pub thirds_paid_out : thirds (pos 100000) ≡ pos 33333 ∷ pos 33333 ∷ pos 33334 ∷ []
   pub thirds_paid_in : thirds (neg_ℤ (pos 100000)) ≡ neg_ℤ (pos 33334) ∷ neg_ℤ (pos 33333) ∷ neg_ℤ (pos 33333) ∷ []
+  -- with the first instalment confirmed, the year closed: the balance is 102,845, and the account stands at -136,158
+  pub balance : balance_of (closing before_closing worked_localities points_before 0) ≡ Ok (record { 0 = pos 102845 })
+  pub account_closed : account closed_once points_before ≡ Ok (record { 0 = neg_ℤ (pos 136158) })
+  -- reopened, 20 Smc less, and closed again: the balance is 100, and the account stands at -136,259
+  pub second_balance : balance_of (closing corrected worked_localities points_after 0) ≡ Ok (record { 0 = pos 100 })
+  pub account_closed_again : account closed_again points_after ≡ Ok (record { 0 = neg_ℤ (pos 136259) })

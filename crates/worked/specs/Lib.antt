@@ -1,3 +1,4 @@
 pub mod Year
+pub mod Closings
 pub mod Figures
 pub mod Orders
