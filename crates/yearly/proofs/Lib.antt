@@ -1,2 +1,3 @@
 pub mod Writing
 pub mod Stories
+pub mod Ties
