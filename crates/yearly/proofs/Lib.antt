@@ -1,3 +1,4 @@
 pub mod Writing
 pub mod Stories
 pub mod Ties
+pub mod CompanySteps

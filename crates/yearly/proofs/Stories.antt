@@ -90,11 +90,11 @@ reopen_closed (Sent j) k granted = cc
 reopen_closed Closed k granted = refl
 
 -- ---- Registering
-pub registered_held : (terms : Terms) (t : Story) → Untold t → HeldBy (new_company terms) (record t { terms = Some terms.figures })
-registered_held terms t u =
+pub registered_held : (terms : Terms) (f : TermsFigures) (t : Story) → terms.figures ≡ f → Untold t → HeldBy (new_company terms) (record t { terms = Some f })
+registered_held terms f t made u =
     let none = none_paid terms.figures.advance terms.figures.instalments in
     record {
-      terms = refl;
+      terms = ap (λ (g : TermsFigures). Some g) (sym made);
       advances = u.advances;
       paid = omega (arith, ints, none, u.paid);
       confirmed = u.confirmed;
