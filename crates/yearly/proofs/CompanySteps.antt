@@ -25,13 +25,10 @@ use Rattle.book.specs.Calls.{State, grants, drawn_answer}
 use Rattle.book.specs.Questions.{paid_out}
 use Rattle.book.proofs.Granted.{when_granted, same, within}
 use Rattle.book.proofs.Events.{GrantedEvent, event_granted}
+use Rattle.book.proofs.QuietLaws.{none_there}
 use Rattle.yearly.specs.Histories.{Told, History, terms_of, filing_of, enrolment_of, or_else, latest, is_true, closes, drawn, taken_back}
 use Rattle.yearly.proofs.Stories.{Story, HeldBy, Held, registered_held, draw_held, cancel_held, send_held, bounce_held, reopen_held}
 use Rattle.yearly.proofs.Ties.{Fixed, Moving, book_at, story, Settled, Tied, Stands, kept, replaced}
-
-none_there : {A : Type 0} (there : Option A) → not (is_some there) ≡ true → there ≡ None
-none_there None none = refl
-none_there (Some a) none = cc
 
 -- terms that are made have the figures that were asked
 made_if : (f : TermsFigures) (bad : Option ℕ) (e : first_bad_term f ≡ bad) (terms : Terms) → terms_if f bad e ≡ Ok terms → terms.figures ≡ f

@@ -1,6 +1,7 @@
 -- A company on record, and what the history and the journal tell of it.
 use Rattle.std.proofs.Common.{◌≡◌, ℕ, ◌+◌, ◌-◌, Bool, true, false, cond, ltb, List, [], ◌∷◌, ◌++◌, map, ℤ, pos, ◌+ℤ◌, ◌-ℤ◌, Some, None, Ok, Err, Option, Result, refl, sym, ap, subst, ◌∙◌, arith}
 use Rattle.std.specs.List.{range_with_len}
+use Rattle.std.proofs.lemmas.List.{append-nil}
 use Rattle.std.proofs.lemmas.List.FromFn.{map-range_with_len_more}
 use borrow.Author.Differences.{ints}
 use Rattle.units.specs.declared.refusal.Reason.{Reason}
@@ -187,12 +188,13 @@ module _ (c : Company) (t : Story) (held : HeldBy c t) where
       }
 
   -- closing brings the balances to z
-  pub close_held : (k : ℕ) (z : ℤ) → act_answer c Close ≡ Ok k → HeldBy (settled (moved c Close (Ok k)) z) (record t { paid = t.paid +ℤ (z -ℤ c.balances); closed = true })
+  pub close_held : (k : ℕ) (z : ℤ) → act_answer c Close ≡ Ok k → HeldBy (settled (moved c Close (Ok k)) z) (record t { advances = t.advances ++ []; paid = t.paid +ℤ (z -ℤ c.balances); closed = true })
   close_held k z granted =
       let free = close_free c.phase k granted in
       let none = ap outs free in
       record {
-        terms = held.terms; advances = held.advances; confirmed = held.confirmed;
+        terms = held.terms; confirmed = held.confirmed;
+        advances = append-nil t.advances ∙ held.advances;
         paid = omega (arith, ints, held.paid);
         out = omega (arith, none, held.out);
         next = tt;
