@@ -3,3 +3,6 @@ pub mod Stories
 pub mod Ties
 pub mod CompanySteps
 pub mod PayingSteps
+pub mod Foreign
+pub mod Grants
+pub mod TableSteps

@@ -96,7 +96,7 @@ pub record Stands (y : Fixed) (h : History) (s : State) : Type 0 where
 
 -- ---- What keeps it
 
-point_same : (row : PointRow) (e e' : Option Enrolment) (volume volume' days days' : ℤ) → e' ≡ e → volume' ≡ volume → days' ≡ days → PointTied row e volume days → PointTied row e' volume' days'
+pub point_same : (row : PointRow) (e e' : Option Enrolment) (volume volume' days days' : ℤ) → e' ≡ e → volume' ≡ volume → days' ≡ days → PointTied row e volume days → PointTied row e' volume' days'
 point_same row e e' volume volume' days days' p q r tied =
     subst (λ (T : Type 0). T) (λ z. PointTied row (sym p z) (sym q z) (sym r z)) tied
 
