@@ -6,3 +6,5 @@ pub mod PayingSteps
 pub mod Foreign
 pub mod Grants
 pub mod TableSteps
+pub mod Rules
+pub mod Running

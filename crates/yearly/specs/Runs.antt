@@ -1,11 +1,23 @@
 -- What a list of calls is answered, and what stands after it: one call after another.
-use Rattle.std.specs.Prelude.{ℕ, List, [], ◌∷◌, Result}
+use Rattle.std.specs.Prelude.{ℕ, List, [], ◌∷◌, length, take, ℤ, Ok, Result}
 use Rattle.units.specs.declared.refusal.Refusal.{Refusal}
+use Rattle.tariff.specs.declared.table.Tariff.{Tariff}
 use Rattle.tables.specs.declared.rows.LocalityRow.{LocalityRow}
+use Rattle.tables.specs.declared.rows.PointRow.{PointRow}
+use Rattle.tables.specs.Blank.{no_locality, no_point}
 use Rattle.calls.specs.declared.call.Call.{Call}
 use Rattle.book.specs.declared.answer.Granted.{Granted}
+use Rattle.book.specs.States.{BookState}
+use Rattle.book.specs.Openings.{opened_by, blanked}
 use Rattle.book.specs.Calls.{State, answer_to, after_call}
+use Rattle.book.specs.Laws.{account_in}
 use Rattle.yearly.specs.Histories.{History}
+use Rattle.yearly.specs.YearRules.{Year, YearRules}
+
+-- what stands after a granted opening
+abbrev pub begun : BookState → Tariff → (number : ℕ) → (sum : ℤ) → List LocalityRow → List PointRow → State
+begun b tariff number sum localities points =
+    record { book = opened_by b tariff number sum (Ok tt); localities = blanked no_locality localities (Ok tt); points = blanked no_point points (Ok tt) }
 
 abbrev pub run_answers : List LocalityRow → State → List Call → List (Result Granted Refusal)
 run_answers filings s [] = []
@@ -20,3 +32,28 @@ abbrev pub history_after : History → List Call → List (Result Granted Refusa
 history_after h [] answers = h
 history_after h (c ∷ cs) [] = h
 history_after h (c ∷ cs) (a ∷ answers) = history_after ((c, a) ∷ h) cs answers
+
+-- ---- The rules of a run
+
+-- the year of calls that were answered so, from a state in which the book had just opened
+abbrev pub year_of : Tariff → (sum : ℤ) → List LocalityRow → State → List Call → List (Result Granted Refusal) → Year
+year_of tariff sum filings s calls answers =
+    record {
+      tariff = tariff.figures;
+      sum = sum;
+      price = s.book.price;
+      places = length s.points;
+      seats = length s.localities;
+      filings = filings;
+      history = history_after [] calls answers;
+      journal = (run_after filings s calls).book.entries;
+    }
+
+-- the account after calls
+abbrev pub account_after : List LocalityRow → State → List Call → ℤ
+account_after filings s calls = account_in (run_after filings s calls).book.opened (run_after filings s calls).points
+
+-- the rules hold at every time of the year: after each number of the calls
+abbrev pub AlwaysInOrder : Tariff → (sum : ℤ) → List LocalityRow → State → List Call → List (Result Granted Refusal) → Type 0
+AlwaysInOrder tariff sum filings s calls answers =
+    (n : ℕ) → YearRules (year_of tariff sum filings s (take n calls) answers) (account_after filings s (take n calls))
