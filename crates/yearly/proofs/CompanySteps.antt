@@ -1,5 +1,5 @@
 -- The calls that move a company's record and book nothing keep the tie.
-use Rattle.std.proofs.Common.{◌≡◌, ℕ, ◌+◌, ◌<◌, Bool, true, false, not, cond, eqb, ltb, List, ◌∷◌, length, get_or, set, ℤ, pos, ◌+ℤ◌, is_some, Some, None, Ok, Err, Option, Result, refl, sym, ap, subst, ◌∙◌, arith}
+use Rattle.std.proofs.Common.{◌≡◌, ℕ, ◌+◌, Bool, true, false, not, cond, eqb, ltb, ◌∷◌, set, is_some, Some, None, Ok, Err, Option, Result, refl, sym, ap, subst, arith}
 use Rattle.std.proofs.lemmas.Bool.{ltb-true}
 use borrow.Author.Differences.{ints}
 use Rattle.units.specs.declared.refusal.Refusal.{Refusal}
@@ -16,9 +16,7 @@ use Rattle.company.proofs.Instalments.{none_paid}
 use Rattle.calls.specs.declared.call.Call.TheVariants.{Register, Draw, Cancel, Send, Bounce, Reopen}
 use Rattle.calls.specs.declared.call.Order.{Order}
 use Rattle.calls.specs.Decisions.{company_at}
-use Rattle.book.specs.declared.answer.Granted.{Granted}
 use Rattle.book.specs.declared.answer.Granted.TheVariants as granted
-use Rattle.book.specs.declared.opened.Opened.{Opened}
 use Rattle.book.specs.States.{BookState, with_company}
 use Rattle.book.specs.Companies.{registered, registered_by, decided, moved}
 use Rattle.book.specs.Calls.{State, grants, drawn_answer}
@@ -27,8 +25,8 @@ use Rattle.book.proofs.Granted.{when_granted, same, within}
 use Rattle.book.proofs.Events.{GrantedEvent, event_granted}
 use Rattle.book.proofs.QuietLaws.{none_there}
 use Rattle.yearly.specs.Histories.{Told, History, terms_of, filing_of, enrolment_of, or_else, latest, is_true, closes, drawn, taken_back}
-use Rattle.yearly.proofs.Stories.{Story, HeldBy, Held, registered_held, draw_held, cancel_held, send_held, bounce_held, reopen_held}
-use Rattle.yearly.proofs.Ties.{Fixed, Moving, book_at, story, Settled, Tied, Stands, kept, replaced}
+use Rattle.yearly.proofs.Stories.{Story, HeldBy, registered_held, draw_held, cancel_held, send_held, bounce_held, reopen_held}
+use Rattle.yearly.proofs.Ties.{Fixed, Moving, book_at, story, Tied, Stands, kept, replaced}
 
 -- terms that are made have the figures that were asked
 made_if : (f : TermsFigures) (bad : Option ℕ) (e : first_bad_term f ≡ bad) (terms : Terms) → terms_if f bad e ≡ Ok terms → terms.figures ≡ f

@@ -1,5 +1,5 @@
 -- A closed company's settlement under the calls on other companies' rows.
-use Rattle.std.proofs.Common.{◌≡◌, ℕ, Bool, true, false, eqb, List, get_or, ℤ, pos, ◌-ℤ◌, Some, None, Ok, Option, refl, sym, ap, ◌∙◌, ⊎_elim}
+use Rattle.std.proofs.Common.{◌≡◌, ℕ, true, false, eqb, List, get_or, pos, ◌-ℤ◌, Some, None, Ok, Option, refl, sym, ap, ◌∙◌, ⊎_elim}
 use Rattle.std.proofs.lemmas.Bool.{cases_Bool, and_left, and_right, ne_eqb}
 use Rattle.tariff.specs.declared.figures.TariffFigures.{TariffFigures}
 use Rattle.tables.specs.declared.rows.LocalityRow.{LocalityRow}

@@ -1,5 +1,5 @@
 -- What a granted filing, enrolling and bill say of the tables.
-use Rattle.std.proofs.Common.{◌≡◌, ℕ, ◌<◌, Bool, true, false, not, cond, ltb, leb, eqb, List, ◌∷◌, length, get_or, ℤ, is_some, Some, None, Ok, Option, Result, refl, sym, ap, subst, ◌∙◌}
+use Rattle.std.proofs.Common.{◌≡◌, ℕ, ◌<◌, Bool, true, false, not, cond, ltb, leb, eqb, List, ◌∷◌, length, get_or, ℤ, is_some, Some, None, Ok, Option, refl, sym, ap, subst, ◌∙◌}
 use Rattle.std.proofs.lemmas.Bool.{ltb-true, eqb-true, false≢true}
 use Rattle.units.specs.declared.refusal.Refusal.{Refusal}
 use Rattle.limits.specs.First.{unless, first_of}

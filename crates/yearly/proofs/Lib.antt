@@ -8,3 +8,4 @@ pub mod Grants
 pub mod TableSteps
 pub mod Rules
 pub mod Running
+pub mod Calling

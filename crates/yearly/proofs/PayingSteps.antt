@@ -1,5 +1,5 @@
 -- The calls that book an advance or a balance keep the tie: confirming and closing.
-use Rattle.std.proofs.Common.{◌≡◌, ℕ, ◌+◌, Bool, true, false, cond, List, [], ◌∷◌, ◌++◌, get_or, set, ℤ, pos, ◌+ℤ◌, ◌-ℤ◌, Some, None, Ok, Err, Option, Result, refl, sym, ap, ap₂, subst, ◌∙◌, arith}
+use Rattle.std.proofs.Common.{◌≡◌, ℕ, ◌+◌, Bool, true, cond, List, [], ◌∷◌, ◌++◌, get_or, set, ℤ, pos, ◌+ℤ◌, ◌-ℤ◌, Some, None, Ok, Err, Option, Result, refl, sym, ap, ap₂, subst, ◌∙◌, arith}
 use Rattle.std.proofs.lemmas.List.{append-nil}
 use borrow.Author.Differences.{ints}
 use Rattle.units.specs.declared.amounts.Cents.{Cents}
@@ -11,7 +11,6 @@ use Rattle.journal.specs.Appending.{append_answer}
 use Rattle.company.specs.declared.record.Company.{Company}
 use Rattle.company.specs.declared.record.Event.TheVariants as event
 use Rattle.company.specs.Events.{act_answer, moved as company_moved}
-use Rattle.company.specs.Instalments.{instalment}
 use Rattle.calls.specs.declared.call.Call.TheVariants.{Confirm, Close}
 use Rattle.calls.specs.declared.call.Order.{Order}
 use Rattle.calls.specs.Decisions.{tables_fit, deciding}
@@ -26,7 +25,7 @@ use Rattle.book.proofs.Granted.{when_granted, next_granted, both_granted, same, 
 use Rattle.book.proofs.Events.{event_granted}
 use Rattle.book.proofs.Noting.{advances_push, no_change}
 use Rattle.yearly.specs.Histories.{Told, History, or_else, latest, is_true, closes, confirmed, taken_back}
-use Rattle.yearly.proofs.Stories.{Story, HeldBy, Held, paid_more, confirm_held, close_held}
+use Rattle.yearly.proofs.Stories.{HeldBy, Held, paid_more, confirm_held, close_held}
 use Rattle.yearly.proofs.Ties.{Fixed, Moving, book_at, story, Tied, Stands, kept, replaced}
 
 -- what a story tells after an entry

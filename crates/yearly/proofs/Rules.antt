@@ -1,5 +1,5 @@
 -- The three rules of a year, from the tie.
-use Rattle.std.proofs.Common.{◌≡◌, ◌≢◌, ℕ, ◌+◌, ◌-◌, ◌*◌, ◌≤◌, Bool, true, false, List, [], get_or, ℤ, pos, ◌+ℤ◌, ◌-ℤ◌, unsigned_abs, Some, None, Option, refl, sym, ap, subst, ◌∙◌, arith}
+use Rattle.std.proofs.Common.{◌≡◌, ◌≢◌, ℕ, ◌+◌, ◌*◌, ◌≤◌, true, List, [], get_or, ℤ, pos, ◌+ℤ◌, ◌-ℤ◌, Some, None, Option, refl, sym, ap, subst, ◌∙◌, arith}
 use Rattle.std.proofs.lemmas.Bool.{false≢true}
 use Rattle.std.proofs.lemmas.List.FromFn.{fill_by_all}
 use borrow.Author.Differences.{ints}
@@ -19,13 +19,12 @@ use Rattle.company.specs.declared.figures.TermsFigures.{TermsFigures}
 use Rattle.company.specs.declared.record.Company.{Company}
 use Rattle.company.specs.declared.record.Phase.{Phase}
 use Rattle.company.specs.declared.record.Phase.TheVariants.{Free, Drawn, Sent, Closed}
-use Rattle.company.specs.Events.{advances}
 use Rattle.book.specs.Calls.{State}
-use Rattle.book.specs.JournalSums.{paid_to, advances_of, journal_volume, journal_days}
+use Rattle.book.specs.JournalSums.{paid_to, advances_of}
 use Rattle.book.specs.Laws.{outs, account_in}
-use Rattle.yearly.specs.Histories.{History, terms_of, closed_in, drawn, confirmed, taken_back}
-use Rattle.yearly.specs.YearRules.{Year, locality, localities, point, points, price_of, ClosingRule, AccountRule, instalments, AdvanceRule, YearRules}
-use Rattle.yearly.proofs.Stories.{is_closed, HeldBy, Held}
+use Rattle.yearly.specs.Histories.{History, terms_of, closed_in, drawn, taken_back}
+use Rattle.yearly.specs.YearRules.{Year, locality, localities, point, points, price_of, ClosingRule, instalments, AdvanceRule, YearRules}
+use Rattle.yearly.proofs.Stories.{is_closed, Held}
 use Rattle.yearly.proofs.Ties.{Fixed, Moving, story, Settled, state_at, Tied, Stands}
 
 phase_closed : (p : Phase) → is_closed p ≡ true → p ≡ Closed
@@ -77,9 +76,9 @@ module _ (y : Fixed) (h : History) (m : Moving) (T : Tied y h m) where
       let exact = plus (exact_revenue t (price_of year f) f.verification f.central ls ps company) (minus (exact_tariff t ls ps company)) in
       let halves = 12 * count_if (owns company) ls + 4 + 4 * count_if (serves ls company) ps in
       let near =
-          near_sub (exact_revenue t (price_of year f) f.verification f.central ls ps company) (exact_tariff t ls ps company)
-          (pos (recognised_revenue t (price_of year f) f.verification f.central ls ps company)) (pos (billed t ls ps company)) _ _
-          (near_revenue t (price_of year f) f.verification f.central ls ps company) (near_billed t ls ps company) in
+      near_sub (exact_revenue t (price_of year f) f.verification f.central ls ps company) (exact_tariff t ls ps company)
+      (pos (recognised_revenue t (price_of year f) f.verification f.central ls ps company)) (pos (billed t ls ps company)) _ _
+      (near_revenue t (price_of year f) f.verification f.central ls ps company) (near_billed t ls ps company) in
       let paid : pos (recognised_revenue t (price_of year f) f.verification f.central ls ps company) -ℤ pos (billed t ls ps company) ≡ paid_to m.entries company = omega (arith, ints, cents) in
       record { cents = cents; exact = subst (λ (z : ℤ). Near exact z halves) paid near }
 

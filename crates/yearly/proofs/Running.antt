@@ -1,5 +1,5 @@
 -- Every list of calls keeps the tie, from a granted opening on.
-use Rattle.std.proofs.Common.{◌≡◌, ℕ, zero, suc, not, eqb, List, [], ◌∷◌, ◌++◌, length, get_or, take, replicate, ℤ, pos, is_some, Some, None, Ok, Option, Result, refl, sym, ap, subst}
+use Rattle.std.proofs.Common.{◌≡◌, ℕ, zero, suc, not, eqb, List, [], ◌∷◌, ◌++◌, length, take, replicate, ℤ, pos, is_some, None, Ok, Option, Result, refl, sym, ap, subst, ◌∙◌}
 use Rattle.std.proofs.lemmas.Bool.{eqb-true}
 use Rattle.units.specs.declared.refusal.Refusal.{Refusal}
 use Rattle.journal.specs.declared.entry.Entry.{Entry}
@@ -8,7 +8,6 @@ use Rattle.tables.specs.declared.rows.LocalityRow.{LocalityRow}
 use Rattle.tables.specs.declared.rows.PointRow.{PointRow}
 use Rattle.tables.specs.Blank.{no_locality, no_point}
 use Rattle.company.specs.declared.record.Company.{Company}
-use Rattle.company.specs.declared.record.Event.TheVariants as event
 use Rattle.calls.specs.declared.call.Call.{Call}
 use Rattle.calls.specs.declared.call.Call.TheVariants.{Register, File, Enrol, Bill, Draw, Cancel, Send, Confirm, Bounce, Close, Reopen, Ask}
 use Rattle.book.specs.declared.answer.Granted.{Granted}
@@ -16,11 +15,11 @@ use Rattle.book.specs.States.{BookState}
 use Rattle.book.specs.Companies.{registered, drawing, cancelling, sending, confirming, bouncing}
 use Rattle.book.specs.Rows.{filing, enrolling, billing}
 use Rattle.book.specs.Closings.{closing, reopening}
-use Rattle.book.specs.Openings.{opening}
+use Rattle.book.specs.Openings.{opening, opened_by, blanked}
 use Rattle.book.specs.Calls.{State, filed_row, answer_to, after_call}
 use Rattle.book.proofs.Granted.{when_granted}
 use Rattle.yearly.specs.Histories.{History}
-use Rattle.yearly.specs.Runs.{begun, run_answers, run_after, history_after, AlwaysInOrder}
+use Rattle.yearly.specs.Runs.{standing, begun, run_answers, run_after, history_after, AlwaysInOrder}
 use Rattle.yearly.proofs.Writing.{blank_at}
 use Rattle.yearly.proofs.Stories.{Held, Untold}
 use Rattle.yearly.proofs.Ties.{Fixed, Moving, book_at, state_at, story, Settled, PointTied, Tied, Stands, asked}
@@ -105,3 +104,12 @@ module _ (b : BookState) (tariff : Tariff) (number : ℕ) (sum : ℤ) (filings l
       let s = begun b tariff number sum localities points in
       let stands : Stands year_fixed [] s = record { m = blank_moving b.entries; is = refl; tied = subst (λ (es : List Entry). Tied year_fixed [] (blank_moving es)) (sym none) begun_tied } in
       rules_stand year_fixed _ _ (run_stands year_fixed n calls more [] s stands)
+
+  -- the same for what an opening left, and for answers that a run wrote
+  pub ran_in_order : (result : Result (Unit {0}) Refusal) (z : ℤ) (after : BookState) (localities' : List LocalityRow) (points' : List PointRow) (calls : List Call) (answers more : List (Result Granted Refusal)) → result ≡ Ok tt → z ≡ sum → result ≡ opening b number z localities points → after ≡ opened_by b tariff number z result → localities' ≡ blanked no_locality localities result → points' ≡ blanked no_point points result → answers ≡ run_answers filings (standing after localities' points') calls ++ more → AlwaysInOrder tariff sum filings (begun b tariff number sum localities points) calls answers
+  ran_in_order result z after localities' points' calls answers more granted same answer opened localities_are points_are wrote =
+      let grants : opening b number sum localities points ≡ Ok tt = ap (λ (w : ℤ). opening b number w localities points) (sym same) ∙ sym answer ∙ granted in
+      let left : standing after localities' points' ≡ begun b tariff number sum localities points =
+      λ i. standing ((opened ∙ (λ j. opened_by b tariff number (same j) (granted j))) i) ((localities_are ∙ ap (blanked no_locality localities) granted) i) ((points_are ∙ ap (blanked no_point points) granted) i) in
+      let wrote_begun = wrote ∙ ap (λ (s : State). run_answers filings s calls ++ more) left in
+      subst (AlwaysInOrder tariff sum filings (begun b tariff number sum localities points) calls) (sym wrote_begun) (always_in_order grants calls more)

@@ -1,10 +1,9 @@
 -- A company on record, and what the history and the journal tell of it.
-use Rattle.std.proofs.Common.{◌≡◌, ℕ, ◌+◌, ◌-◌, Bool, true, false, cond, ltb, List, [], ◌∷◌, ◌++◌, map, ℤ, pos, ◌+ℤ◌, ◌-ℤ◌, Some, None, Ok, Err, Option, Result, refl, sym, ap, subst, ◌∙◌, arith}
+use Rattle.std.proofs.Common.{◌≡◌, ℕ, ◌+◌, ◌-◌, Bool, true, false, cond, ltb, List, [], ◌∷◌, ◌++◌, map, ℤ, pos, ◌+ℤ◌, ◌-ℤ◌, Some, None, Ok, Err, Option, refl, sym, ap, subst, ◌∙◌, arith}
 use Rattle.std.specs.List.{range_with_len}
 use Rattle.std.proofs.lemmas.List.{append-nil}
 use Rattle.std.proofs.lemmas.List.FromFn.{map-range_with_len_more}
 use borrow.Author.Differences.{ints}
-use Rattle.units.specs.declared.refusal.Reason.{Reason}
 use Rattle.units.specs.declared.refusal.Reason.TheVariants.{AllPaid}
 use Rattle.company.specs.declared.figures.TermsFigures.{TermsFigures}
 use Rattle.company.specs.declared.record.Company.{Company}
@@ -12,7 +11,7 @@ use Rattle.company.specs.declared.record.Event.TheVariants.{Draw, Cancel, Send, 
 use Rattle.company.specs.declared.record.Phase.{Phase}
 use Rattle.company.specs.declared.record.Phase.TheVariants.{Free, Drawn, Sent, Closed}
 use Rattle.company.specs.declared.terms.Terms.{Terms}
-use Rattle.company.specs.Events.{act_answer, moved, draw_answer, close_answer, reopen_answer, new_company, advances}
+use Rattle.company.specs.Events.{act_answer, moved, draw_answer, close_answer, reopen_answer, new_company}
 use Rattle.company.specs.Instalments.{paid_up_to, instalment}
 use Rattle.company.proofs.Instalments.{none_paid}
 use Rattle.book.specs.Closings.{settled}
@@ -114,7 +113,10 @@ module _ (c : Company) (t : Story) (held : HeldBy c t) where
       let free = draw_free c.phase c.paid c.terms.figures.instalments k granted in
       let none = ap outs free.0 in
       record {
-        terms = held.terms; advances = held.advances; paid = held.paid; confirmed = held.confirmed;
+        terms = held.terms;
+        advances = held.advances;
+        paid = held.paid;
+        confirmed = held.confirmed;
         out = omega (arith, none, held.out);
         next = free.1;
         closed = held.closed ∙ ap is_closed free.0;
@@ -125,7 +127,10 @@ module _ (c : Company) (t : Story) (held : HeldBy c t) where
       let out = (order_laws.cancelled c j k granted).1 in
       let one = ap outs out in
       record {
-        terms = held.terms; advances = held.advances; paid = held.paid; confirmed = held.confirmed;
+        terms = held.terms;
+        advances = held.advances;
+        paid = held.paid;
+        confirmed = held.confirmed;
         out = omega (arith, one, held.out);
         next = tt;
         closed = held.closed ∙ ap is_closed out;
@@ -136,7 +141,10 @@ module _ (c : Company) (t : Story) (held : HeldBy c t) where
       let out = (order_laws.sent c j k granted).1 in
       let one = ap outs out in
       record {
-        terms = held.terms; advances = held.advances; paid = held.paid; confirmed = held.confirmed;
+        terms = held.terms;
+        advances = held.advances;
+        paid = held.paid;
+        confirmed = held.confirmed;
         out = omega (arith, one, held.out);
         next = next_at (Drawn k) out;
         closed = held.closed ∙ ap is_closed out;
@@ -147,7 +155,10 @@ module _ (c : Company) (t : Story) (held : HeldBy c t) where
       let out = (order_laws.bounced c j k granted).1 in
       let one = ap outs out in
       record {
-        terms = held.terms; advances = held.advances; paid = held.paid; confirmed = held.confirmed;
+        terms = held.terms;
+        advances = held.advances;
+        paid = held.paid;
+        confirmed = held.confirmed;
         out = omega (arith, one, held.out);
         next = tt;
         closed = held.closed ∙ ap is_closed out;
@@ -193,7 +204,8 @@ module _ (c : Company) (t : Story) (held : HeldBy c t) where
       let free = close_free c.phase k granted in
       let none = ap outs free in
       record {
-        terms = held.terms; confirmed = held.confirmed;
+        terms = held.terms;
+        confirmed = held.confirmed;
         advances = append-nil t.advances ∙ held.advances;
         paid = omega (arith, ints, held.paid);
         out = omega (arith, none, held.out);
@@ -206,7 +218,10 @@ module _ (c : Company) (t : Story) (held : HeldBy c t) where
       let closed = reopen_closed c.phase k granted in
       let none = ap outs closed in
       record {
-        terms = held.terms; advances = held.advances; paid = held.paid; confirmed = held.confirmed;
+        terms = held.terms;
+        advances = held.advances;
+        paid = held.paid;
+        confirmed = held.confirmed;
         out = omega (arith, none, held.out);
         next = tt;
         closed = refl;

@@ -1,13 +1,11 @@
 -- The calls that write a row of a lent table keep the tie: filing, enrolling and billing.
-use Rattle.std.proofs.Common.{◌≡◌, ◌≢◌, ℕ, ◌<◌, ◌≤◌, Bool, true, false, cond, eqb, List, [], ◌∷◌, ◌++◌, length, get_or, set, ℤ, pos, ◌+ℤ◌, unsigned_abs, Some, None, Ok, Err, Option, Result, refl, sym, ap, ap₂, subst, ◌∙◌, length-set, arith}
+use Rattle.std.proofs.Common.{◌≡◌, ℕ, Bool, true, false, cond, eqb, List, [], ◌∷◌, ◌++◌, get_or, set, ℤ, pos, ◌+ℤ◌, unsigned_abs, Some, None, Ok, Err, Option, Result, refl, sym, ap, ap₂, subst, ◌∙◌, length-set, arith}
 use Rattle.std.proofs.lemmas.Bool.{eq-eqb, ne_eqb, and_left, false≢true}
-use Rattle.std.proofs.lemmas.List.{get_or_default}
 use borrow.Author.Differences.{ints}
 use Rattle.units.specs.declared.refusal.Refusal.{Refusal}
 use Rattle.rounding.proofs.SumLaws.{sum_z_push}
 use Rattle.journal.specs.declared.entry.Entry.{Entry}
 use Rattle.journal.specs.Appending.{append_answer}
-use Rattle.tariff.specs.declared.bill.Bill.{Bill}
 use Rattle.tariff.specs.declared.supply.Change.{Change}
 use Rattle.tables.specs.declared.rows.LocalityRow.{LocalityRow}
 use Rattle.tables.specs.declared.rows.PointRow.{PointRow}
@@ -15,18 +13,16 @@ use Rattle.tables.specs.Blank.{no_locality, no_point, no_point_blank, past_table
 use Rattle.tables.specs.PointRows.{point_stands}
 use Rattle.revenue.specs.Owners.{owns, seat, serves}
 use Rattle.revenue.proofs.Replacing.{billed_foreign, commercial_foreign, localities_foreign, billed_refiled, commercial_refiled}
-use Rattle.company.specs.declared.record.Company.{Company}
-use Rattle.company.specs.declared.record.Phase.TheVariants.{Closed}
 use Rattle.calls.specs.declared.billing.Charged.{Charged}
 use Rattle.calls.specs.declared.call.Call.TheVariants as call
 use Rattle.calls.specs.declared.enrolling.Enrolment.{Enrolment}
 use Rattle.calls.specs.Decisions.{billing as billing_in}
 use Rattle.book.specs.declared.answer.Granted.TheVariants as granted
-use Rattle.book.specs.States.{BookState, noted}
+use Rattle.book.specs.States.{BookState}
 use Rattle.book.specs.Tables.{written, billed_row}
 use Rattle.book.specs.Rows.{filing, enrolling, billing, bill_of, billed_by, bill_entry}
-use Rattle.book.specs.Calls.{State, grants, filed_row}
-use Rattle.book.specs.JournalSums.{Advanced, advance_in, payment_in, payment_to, journal_volume, journal_days, advances_of, paid_to, payments}
+use Rattle.book.specs.Calls.{grants, filed_row}
+use Rattle.book.specs.JournalSums.{Advanced, payment_to, journal_volume, journal_days, paid_to}
 use Rattle.book.proofs.Granted.{both_granted}
 use Rattle.book.proofs.Bills.{GrantedBill, bill_granted}
 use Rattle.book.proofs.BillLaw.{still_stands, year_days}
@@ -34,8 +30,8 @@ use Rattle.book.proofs.Noting.{its_change, others_change, no_advances, no_paymen
 use Rattle.yearly.specs.Histories.{Told, History, or_else, filing_of, enrolment_of}
 use Rattle.yearly.specs.YearRules.{locality_in, point_in}
 use Rattle.yearly.proofs.Writing.{each_after_set}
-use Rattle.yearly.proofs.Stories.{Story, Held}
-use Rattle.yearly.proofs.Ties.{Fixed, Moving, book_at, story, Settled, PointTied, Tied, Stands, kept, point_same}
+use Rattle.yearly.proofs.Stories.{Held}
+use Rattle.yearly.proofs.Ties.{Fixed, Moving, book_at, story, PointTied, Tied, Stands, kept, point_same}
 use Rattle.yearly.proofs.Foreign.{Active, another, owns_not, serves_not, SameSums, settled_same}
 use Rattle.yearly.proofs.Grants.{Filed, filing_granted, unbilled, Enrolled, enrolling_granted, billing_active}
 

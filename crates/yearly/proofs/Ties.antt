@@ -1,5 +1,5 @@
 -- What ties a book to its history and its journal. It holds after every list of calls.
-use Rattle.std.proofs.Common.{◌≡◌, ℕ, ◌<◌, Bool, true, false, eqb, List, [], ◌∷◌, length, get_or, set, ℤ, pos, ◌+ℤ◌, Some, None, Ok, Err, Option, Result, refl, sym, ap, subst, ◌∙◌, length-set, arith}
+use Rattle.std.proofs.Common.{◌≡◌, ℕ, ◌<◌, Bool, true, false, eqb, List, ◌∷◌, length, get_or, set, ℤ, pos, ◌+ℤ◌, Some, None, Ok, Err, Option, Result, refl, sym, ap, subst, ◌∙◌, length-set, arith}
 use Rattle.std.proofs.lemmas.Bool.{eq-eqb, ne_eqb}
 use borrow.Author.Differences.{ints}
 use Rattle.units.specs.declared.refusal.Refusal.{Refusal}

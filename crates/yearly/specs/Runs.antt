@@ -14,10 +14,14 @@ use Rattle.book.specs.Laws.{account_in}
 use Rattle.yearly.specs.Histories.{History}
 use Rattle.yearly.specs.YearRules.{Year, YearRules}
 
+-- a book with the tables that are lent to it
+abbrev pub standing : BookState → List LocalityRow → List PointRow → State
+standing b localities points = record { book = b; localities = localities; points = points }
+
 -- what stands after a granted opening
 abbrev pub begun : BookState → Tariff → (number : ℕ) → (sum : ℤ) → List LocalityRow → List PointRow → State
 begun b tariff number sum localities points =
-    record { book = opened_by b tariff number sum (Ok tt); localities = blanked no_locality localities (Ok tt); points = blanked no_point points (Ok tt) }
+    standing (opened_by b tariff number sum (Ok tt)) (blanked no_locality localities (Ok tt)) (blanked no_point points (Ok tt))
 
 abbrev pub run_answers : List LocalityRow → State → List Call → List (Result Granted Refusal)
 run_answers filings s [] = []
