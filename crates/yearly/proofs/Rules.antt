@@ -1,8 +1,9 @@
 -- The three rules of a year, from the tie.
-use Rattle.std.proofs.Common.{◌≡◌, ◌≢◌, ℕ, ◌+◌, ◌*◌, ◌≤◌, true, List, [], get_or, ℤ, pos, ◌+ℤ◌, ◌-ℤ◌, Some, None, Option, refl, sym, ap, subst, ◌∙◌, arith}
-use Rattle.std.proofs.lemmas.Bool.{false≢true}
+use Rattle.std.proofs.Common.{leb, length, Ok, ◌≡◌, ◌≢◌, ℕ, ◌+◌, ◌*◌, ◌≤◌, true, List, [], get_or, ℤ, pos, ◌+ℤ◌, ◌-ℤ◌, Some, None, Option, refl, sym, ap, subst, ◌∙◌, arith}
+use Rattle.std.proofs.lemmas.Bool.{false≢true, cond-true}
 use Rattle.std.proofs.lemmas.List.FromFn.{fill_by_all}
 use borrow.Author.Differences.{ints}
+use Rattle.units.specs.declared.amounts.Cents.{Cents}
 use Rattle.rounding.specs.Frac.{plus, minus}
 use Rattle.rounding.specs.Nearness.{Near}
 use Rattle.rounding.specs.Sums.{count_if}
@@ -21,6 +22,7 @@ use Rattle.company.specs.declared.record.Phase.{Phase}
 use Rattle.company.specs.declared.record.Phase.TheVariants.{Free, Drawn, Sent, Closed}
 use Rattle.book.specs.Calls.{State}
 use Rattle.book.specs.JournalSums.{paid_to, advances_of}
+use Rattle.book.specs.Questions.{account}
 use Rattle.book.specs.Laws.{outs, account_in}
 use Rattle.yearly.specs.Histories.{History, terms_of, closed_in, drawn, taken_back}
 use Rattle.yearly.specs.YearRules.{Year, locality, localities, point, points, price_of, ClosingRule, instalments, AdvanceRule, YearRules}
@@ -65,10 +67,10 @@ module _ (y : Fixed) (h : History) (m : Moving) (T : Tied y h m) where
 
   -- ---- The closing rule
 
-  abbrev Cents : (company : ℕ) (f : TermsFigures) → List LocalityRow → List PointRow → Type 0
-  Cents company f ls ps = pos (billed y.tariff.figures ls ps company) +ℤ paid_to m.entries company ≡ pos (recognised_revenue y.tariff.figures (price_of year f) f.verification f.central ls ps company)
+  abbrev ToTheCent : (company : ℕ) (f : TermsFigures) → List LocalityRow → List PointRow → Type 0
+  ToTheCent company f ls ps = pos (billed y.tariff.figures ls ps company) +ℤ paid_to m.entries company ≡ pos (recognised_revenue y.tariff.figures (price_of year f) f.verification f.central ls ps company)
 
-  closing : (company : ℕ) (f : TermsFigures) → Cents company f (localities year) (points year) → ClosingRule year company f
+  closing : (company : ℕ) (f : TermsFigures) → ToTheCent company f (localities year) (points year) → ClosingRule year company f
   closing company f cents =
       let t = y.tariff.figures in
       let ls = localities year in
@@ -87,11 +89,11 @@ module _ (y : Fixed) (h : History) (m : Moving) (T : Tied y h m) where
   closing_at company (Some c) held settled f registered closed =
       let same : c.terms.figures ≡ f = cc in
       let balances = settled (phase_closed c.phase (sym held.closed ∙ closed)) in
-      let lent : Cents company c.terms.figures m.localities m.points = omega (arith, ints, held.paid, balances) in
+      let lent : ToTheCent company c.terms.figures m.localities m.points = omega (arith, ints, held.paid, balances) in
       closing company f
-      (subst (λ (ps : List PointRow). Cents company f (localities year) ps) points_are
-      (subst (λ (ls : List LocalityRow). Cents company f ls m.points) localities_are
-      (subst (λ (g : TermsFigures). Cents company g m.localities m.points) same lent)))
+      (subst (λ (ps : List PointRow). ToTheCent company f (localities year) ps) points_are
+      (subst (λ (ls : List LocalityRow). ToTheCent company f ls m.points) localities_are
+      (subst (λ (g : TermsFigures). ToTheCent company g m.localities m.points) same lent)))
 
   -- ---- The advance rule
 
@@ -128,6 +130,16 @@ module _ (y : Fixed) (h : History) (m : Moving) (T : Tied y h m) where
             (ap (λ (p : PointRow). pos p.volume) (sym tied.is) ∙ tied.volume, ap (λ (p : PointRow). pos p.days) (sym tied.is) ∙ tied.days);
       }
 
-pub rules_stand : (y : Fixed) (h : History) (s : State) → Stands y h s → YearRules (year_at y h s) (account_in s.book.opened s.points)
-rules_stand y h s stands =
-    subst (λ (s : State). YearRules (year_at y h s) (account_in s.book.opened s.points)) (sym stands.is) (rules y h stands.m stands.tied)
+  -- the account that the book tells
+  account_told : leb y.places 65536 ≡ true → account (state_at y m).book m.points ≡ Ok (record { 0 = account_in (state_at y m).book.opened m.points })
+  account_told few = cond-true (leb (length m.points) 65536) _ _ (ap (λ (n : ℕ). leb n 65536) T.places ∙ few)
+
+-- the rules hold in a state that is tied to a history
+abbrev pub Ordered : Fixed → History → State → Type 0
+Ordered y h s = (told : Cents) × (account s.book s.points ≡ Ok told) × YearRules (year_at y h s) told.0
+
+pub rules_stand : (y : Fixed) (h : History) (s : State) → leb y.places 65536 ≡ true → Stands y h s → Ordered y h s
+rules_stand y h s few stands =
+    let m = stands.m in
+    let ordered : Ordered y h (state_at y m) = (record { 0 = account_in (state_at y m).book.opened m.points }, account_told y h m stands.tied few, rules y h m stands.tied) in
+    subst (Ordered y h) (sym stands.is) ordered

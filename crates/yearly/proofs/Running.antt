@@ -1,6 +1,7 @@
 -- Every list of calls keeps the tie, from a granted opening on.
-use Rattle.std.proofs.Common.{◌≡◌, ℕ, zero, suc, not, eqb, List, [], ◌∷◌, ◌++◌, length, take, replicate, ℤ, pos, is_some, None, Ok, Option, Result, refl, sym, ap, subst, ◌∙◌}
-use Rattle.std.proofs.lemmas.Bool.{eqb-true}
+use Rattle.std.proofs.Common.{leb, ◌≡◌, ℕ, zero, suc, not, eqb, List, [], ◌∷◌, ◌++◌, length, take, replicate, ℤ, pos, is_some, None, Ok, Option, Result, refl, sym, ap, subst, ◌∙◌}
+use Rattle.std.proofs.lemmas.Bool.{eqb-true, and_parts}
+use Rattle.std.proofs.lemmas.List.{length-replicate}
 use Rattle.units.specs.declared.refusal.Refusal.{Refusal}
 use Rattle.journal.specs.declared.entry.Entry.{Entry}
 use Rattle.tariff.specs.declared.table.Tariff.{Tariff}
@@ -10,6 +11,7 @@ use Rattle.tables.specs.Blank.{no_locality, no_point}
 use Rattle.company.specs.declared.record.Company.{Company}
 use Rattle.calls.specs.declared.call.Call.{Call}
 use Rattle.calls.specs.declared.call.Call.TheVariants.{Register, File, Enrol, Bill, Draw, Cancel, Send, Confirm, Bounce, Close, Reopen, Ask}
+use Rattle.calls.specs.Decisions.{tables_fit}
 use Rattle.book.specs.declared.answer.Granted.{Granted}
 use Rattle.book.specs.States.{BookState}
 use Rattle.book.specs.Companies.{registered, drawing, cancelling, sending, confirming, bouncing}
@@ -101,9 +103,11 @@ module _ (b : BookState) (tariff : Tariff) (number : ℕ) (sum : ℤ) (filings l
       let closed = when_granted (not (is_some b.opened)) _ _ _ tt granted in
       let empty = when_granted (eqb (length b.entries) 0) _ _ _ tt closed.1 in
       let none = no_entries b.entries (eqb-true (length b.entries) 0 empty.0) in
+      let fit = when_granted (tables_fit localities points) _ _ _ tt empty.1 in
+      let few = ap (λ (n : ℕ). leb n 65536) (length-replicate (length points) no_point) ∙ (and_parts (leb (length localities) 256) (leb (length points) 65536) fit.0).1 in
       let s = begun b tariff number sum localities points in
       let stands : Stands year_fixed [] s = record { m = blank_moving b.entries; is = refl; tied = subst (λ (es : List Entry). Tied year_fixed [] (blank_moving es)) (sym none) begun_tied } in
-      rules_stand year_fixed _ _ (run_stands year_fixed n calls more [] s stands)
+      rules_stand year_fixed _ _ few (run_stands year_fixed n calls more [] s stands)
 
   -- the same for what an opening left, and for answers that a run wrote
   pub ran_in_order : (result : Result (Unit {0}) Refusal) (z : ℤ) (after : BookState) (localities' : List LocalityRow) (points' : List PointRow) (calls : List Call) (answers more : List (Result Granted Refusal)) → result ≡ Ok tt → z ≡ sum → result ≡ opening b number z localities points → after ≡ opened_by b tariff number z result → localities' ≡ blanked no_locality localities result → points' ≡ blanked no_point points result → answers ≡ run_answers filings (standing after localities' points') calls ++ more → AlwaysInOrder tariff sum filings (begun b tariff number sum localities points) calls answers

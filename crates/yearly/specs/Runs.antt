@@ -1,5 +1,6 @@
 -- What a list of calls is answered, and what stands after it: one call after another.
-use Rattle.std.specs.Prelude.{ℕ, List, [], ◌∷◌, length, take, ℤ, Ok, Result}
+use Rattle.std.specs.Prelude.{◌≡◌, ℕ, List, [], ◌∷◌, length, take, ℤ, Ok, Result}
+use Rattle.units.specs.declared.amounts.Cents.{Cents}
 use Rattle.units.specs.declared.refusal.Refusal.{Refusal}
 use Rattle.tariff.specs.declared.table.Tariff.{Tariff}
 use Rattle.tables.specs.declared.rows.LocalityRow.{LocalityRow}
@@ -9,8 +10,8 @@ use Rattle.calls.specs.declared.call.Call.{Call}
 use Rattle.book.specs.declared.answer.Granted.{Granted}
 use Rattle.book.specs.States.{BookState}
 use Rattle.book.specs.Openings.{opened_by, blanked}
+use Rattle.book.specs.Questions.{account}
 use Rattle.book.specs.Calls.{State, answer_to, after_call}
-use Rattle.book.specs.Laws.{account_in}
 use Rattle.yearly.specs.Histories.{History}
 use Rattle.yearly.specs.YearRules.{Year, YearRules}
 
@@ -53,11 +54,11 @@ year_of tariff sum filings s calls answers =
       journal = (run_after filings s calls).book.entries;
     }
 
--- the account after calls
-abbrev pub account_after : List LocalityRow → State → List Call → ℤ
-account_after filings s calls = account_in (run_after filings s calls).book.opened (run_after filings s calls).points
+-- the rules hold then, of the account that the book tells
+abbrev pub InOrder : Tariff → (sum : ℤ) → List LocalityRow → State → List Call → List (Result Granted Refusal) → Type 0
+InOrder tariff sum filings s calls answers =
+    (told : Cents) × (account (run_after filings s calls).book (run_after filings s calls).points ≡ Ok told) × YearRules (year_of tariff sum filings s calls answers) told.0
 
--- the rules hold at every time of the year: after each number of the calls
+-- at every time of the year: after each number of the calls
 abbrev pub AlwaysInOrder : Tariff → (sum : ℤ) → List LocalityRow → State → List Call → List (Result Granted Refusal) → Type 0
-AlwaysInOrder tariff sum filings s calls answers =
-    (n : ℕ) → YearRules (year_of tariff sum filings s (take n calls) answers) (account_after filings s (take n calls))
+AlwaysInOrder tariff sum filings s calls answers = (n : ℕ) → InOrder tariff sum filings s (take n calls) answers
