@@ -24,7 +24,7 @@ use Rattle.book.proofs.Noting.{its_change, others_change, no_advances, no_paymen
 use Rattle.book.proofs.Bills.{GrantedBill, bill_granted}
 
 -- a row that is billed within its limits stands as it did
-still_stands : (p : PointRow) (b : Bill) → point_stands p ≡ true → b.volume ≤ 1000000000 → b.days ≤ 366 → point_stands (billed_row p b) ≡ true
+pub still_stands : (p : PointRow) (b : Bill) → point_stands p ≡ true → b.volume ≤ 1000000000 → b.days ≤ 366 → point_stands (billed_row p b) ≡ true
 unfolding point_stands
 still_stands p b stood volume days =
     let h = point_held p stood in
@@ -34,7 +34,7 @@ still_stands p b stood volume days =
     (le-leb _ _ volume))
     (le-leb _ _ days)
 
-year_days : (t : Tariff) → t.figures.days ≤ 366
+pub year_days : (t : Tariff) → t.figures.days ≤ 366
 year_days t = ⊎_elim (λ short. omega arith) (λ long. omega arith) (held t).year
 
 module _ (o : Opened) (points : List PointRow) (point : ℕ) (dv dd : ℤ) (b : Bill) (g : GrantedBill o.tariff.figures points point dv dd b) where

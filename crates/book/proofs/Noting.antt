@@ -13,7 +13,7 @@ use Rattle.book.specs.Rows.{bill_entry}
 use Rattle.book.specs.JournalSums.{change_at, advance_in, advances_of, payment_in, payments, Advanced}
 
 -- ---- Any entry
-advances_push : (es : List Entry) (e : Entry) (company : ℕ) → advances_of (es ++ e ∷ []) company ≡ advances_of es company ++ advance_in company e
+pub advances_push : (es : List Entry) (e : Entry) (company : ℕ) → advances_of (es ++ e ∷ []) company ≡ advances_of es company ++ advance_in company e
 advances_push [] e company = append-nil (advance_in company e)
 advances_push (x ∷ es) e company =
     ap (λ (xs : List Advanced). advance_in company x ++ xs) (advances_push es e company)

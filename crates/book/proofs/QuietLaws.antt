@@ -50,7 +50,7 @@ module _ (e : Event) (paid_stays : (paid k : ℕ) → paid_after paid e k ≡ pa
   event_quiet b points number place (Err refused) answered = record { entries = refl; account = refl }
 
 -- ---- A new company
-none_there : {A : Type 0} (there : Option A) → not (is_some there) ≡ true → there ≡ None
+pub none_there : {A : Type 0} (there : Option A) → not (is_some there) ≡ true → there ≡ None
 none_there None none = refl
 none_there (Some a) none = cc
 
@@ -82,7 +82,7 @@ registering_quiet b points place figures (Ok terms) granted =
 registering_quiet b points place figures (Err refused) answered = record { entries = refl; account = refl }
 
 -- ---- A new point
-not_standing : (stands : Bool) (row : PointRow) → not (is_some (cond stands (Some row) None)) ≡ true → stands ≡ false
+pub not_standing : (stands : Bool) (row : PointRow) → not (is_some (cond stands (Some row) None)) ≡ true → stands ≡ false
 not_standing true row none = cc
 not_standing false row none = refl
 

@@ -1,5 +1,5 @@
 -- What a year's history says: the calls with their answers, the latest first. A refused call says nothing.
-use Rattle.std.specs.Prelude.{ℕ, ◌+◌, Bool, true, false, cond, ◌&&◌, List, [], ◌∷◌, Some, None, Ok, Err, Option, Result, ◌==◌, is_ok}
+use Rattle.std.specs.Prelude.{ℕ, ◌+◌, Bool, true, false, cond, ◌&&◌, List, [], ◌∷◌, Some, None, Option, Result, ◌==◌, is_ok}
 use Rattle.units.specs.declared.refusal.Refusal.{Refusal}
 use Rattle.tables.specs.declared.rows.LocalityRow.{LocalityRow}
 use Rattle.company.specs.declared.figures.TermsFigures.{TermsFigures}

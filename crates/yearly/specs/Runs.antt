@@ -1,11 +1,28 @@
 -- What a list of calls is answered, and what stands after it: one call after another.
-use Rattle.std.specs.Prelude.{ℕ, List, [], ◌∷◌, Result}
+use Rattle.std.specs.Prelude.{◌≡◌, ℕ, List, [], ◌∷◌, length, take, ℤ, Ok, Result}
+use Rattle.units.specs.declared.amounts.Cents.{Cents}
 use Rattle.units.specs.declared.refusal.Refusal.{Refusal}
+use Rattle.tariff.specs.declared.table.Tariff.{Tariff}
 use Rattle.tables.specs.declared.rows.LocalityRow.{LocalityRow}
+use Rattle.tables.specs.declared.rows.PointRow.{PointRow}
+use Rattle.tables.specs.Blank.{no_locality, no_point}
 use Rattle.calls.specs.declared.call.Call.{Call}
 use Rattle.book.specs.declared.answer.Granted.{Granted}
+use Rattle.book.specs.States.{BookState}
+use Rattle.book.specs.Openings.{opened_by, blanked}
+use Rattle.book.specs.Questions.{account}
 use Rattle.book.specs.Calls.{State, answer_to, after_call}
 use Rattle.yearly.specs.Histories.{History}
+use Rattle.yearly.specs.YearRules.{Year, YearRules}
+
+-- a book with the tables that are lent to it
+abbrev pub standing : BookState → List LocalityRow → List PointRow → State
+standing b localities points = record { book = b; localities = localities; points = points }
+
+-- what stands after a granted opening
+abbrev pub begun : BookState → Tariff → (number : ℕ) → (sum : ℤ) → List LocalityRow → List PointRow → State
+begun b tariff number sum localities points =
+    standing (opened_by b tariff number sum (Ok tt)) (blanked no_locality localities (Ok tt)) (blanked no_point points (Ok tt))
 
 abbrev pub run_answers : List LocalityRow → State → List Call → List (Result Granted Refusal)
 run_answers filings s [] = []
@@ -20,3 +37,28 @@ abbrev pub history_after : History → List Call → List (Result Granted Refusa
 history_after h [] answers = h
 history_after h (c ∷ cs) [] = h
 history_after h (c ∷ cs) (a ∷ answers) = history_after ((c, a) ∷ h) cs answers
+
+-- ---- The rules of a run
+
+-- the year of calls that were answered so, from a state in which the book had just opened
+abbrev pub year_of : Tariff → (sum : ℤ) → List LocalityRow → State → List Call → List (Result Granted Refusal) → Year
+year_of tariff sum filings s calls answers =
+    record {
+      tariff = tariff.figures;
+      sum = sum;
+      price = s.book.price;
+      places = length s.points;
+      seats = length s.localities;
+      filings = filings;
+      history = history_after [] calls answers;
+      journal = (run_after filings s calls).book.entries;
+    }
+
+-- the rules hold then, of the account that the book tells
+abbrev pub InOrder : Tariff → (sum : ℤ) → List LocalityRow → State → List Call → List (Result Granted Refusal) → Type 0
+InOrder tariff sum filings s calls answers =
+    (told : Cents) × (account (run_after filings s calls).book (run_after filings s calls).points ≡ Ok told) × YearRules (year_of tariff sum filings s calls answers) told.0
+
+-- at every time of the year: after each number of the calls
+abbrev pub AlwaysInOrder : Tariff → (sum : ℤ) → List LocalityRow → State → List Call → List (Result Granted Refusal) → Type 0
+AlwaysInOrder tariff sum filings s calls answers = (n : ℕ) → InOrder tariff sum filings s (take n calls) answers

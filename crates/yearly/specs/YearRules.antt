@@ -2,10 +2,9 @@
 -- means), of the history of granted calls, and of the journal.
 use Rattle.std.specs.Prelude.{◌≡◌, ◌≢◌, ℕ, ◌+◌, ◌-◌, ◌*◌, ◌≤◌, true, List, [], map, ℤ, pos, ◌+ℤ◌, ◌-ℤ◌, Some, None, Option, unsigned_abs}
 use Rattle.std.specs.List.{range_with_len}
-use Rattle.units.specs.declared.amounts.Cents.{Cents}
 use Rattle.rounding.specs.Frac.{plus, minus}
 use Rattle.rounding.specs.Nearness.{Near}
-use Rattle.rounding.specs.Sums.{sum_z, count_if}
+use Rattle.rounding.specs.Sums.{count_if}
 use Rattle.journal.specs.declared.entry.Entry.{Entry}
 use Rattle.tariff.specs.declared.figures.TariffFigures.{TariffFigures}
 use Rattle.tables.specs.declared.rows.LocalityRow.{LocalityRow}

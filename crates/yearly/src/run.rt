@@ -1,6 +1,61 @@
-// A list of calls, one after another.
-ghost use Rattle.std.specs.Prelude.{◌≡◌};
+// A list of calls, one after another, from the opening on.
+ghost use Rattle.std.specs.Prelude.{◌≡◌, ◌≤◌, ◌++◌, length, drop, IfOk, IfErr, nat_le};
+ghost use Rattle.units.specs.declared.refusal.Reason.TheVariants.{PastTable};
+ghost use Rattle.calls.specs.Steps.{when};
+ghost use Rattle.book.specs.States.{state};
+ghost use Rattle.book.specs.Openings.{opening};
+ghost use Rattle.yearly.specs.Runs.{standing, begun, run_answers, run_after, AlwaysInOrder};
 
-pub fn nothing() -> u8 {
-    0
+use book::answer::Granted;
+use book::book::Book;
+use calls::call::Call;
+use journal::kept::Journal;
+use management::rule::Management;
+use tables::rows::{LocalityRow, PointRow};
+use tariff::table::Tariff;
+use units::refusal::{Reason, Refusal};
+
+// Performs the calls in order, and writes each answer at its call's place.
+fn run<J: Journal, M: Management>(
+    book: &mut Book<J, M>,
+    localities: &mut [LocalityRow],
+    points: &mut [PointRow],
+    filings: &[LocalityRow],
+    calls: &[Call],
+    answers: &mut [Result<Granted, Refusal>],
+)
+    requires { length calls.now ≤ length answers.old }
+    ensures answers { answers.new ≡ run_answers filings.now (standing (state J.Journal M.Management book.old) localities.old points.old) calls.now ++ drop (length calls.now) answers.old }
+    ensures after { standing (state J.Journal M.Management book.new) localities.new points.new ≡ run_after filings.now (standing (state J.Journal M.Management book.old) localities.old points.old) calls.now }
+{
+    for i in 0..calls.len() {
+        answers[i] = book.obey(localities, points, filings, calls[i]);
+    }
+}
+
+/// Opens a book and performs calls, each of which is answered at its place: refused by 4 where the places of answers are too few, else as the opening is,
+/// and then nothing is performed. The rules of the year hold after every one of the calls.
+pub fn run_year<J: Journal, M: Management>(
+    book: &mut Book<J, M>,
+    tariff: &Tariff,
+    number: u64,
+    sum: i64,
+    localities: &mut [LocalityRow],
+    points: &mut [PointRow],
+    filings: &[LocalityRow],
+    calls: &[Call],
+    answers: &mut [Result<Granted, Refusal>],
+) -> Result<(), Refusal>
+    ensures answer { result ≡ when (nat_le (length calls.now) (length answers.old)) PastTable 0 (opening (state J.Journal M.Management book.old) number sum localities.old points.old) }
+    ensures run { IfOk result (λ _. answers.new ≡ run_answers filings.now (begun (state J.Journal M.Management book.old) tariff.now number sum localities.old points.old) calls.now ++ drop (length calls.now) answers.old) }
+    ensures after { IfOk result (λ _. standing (state J.Journal M.Management book.new) localities.new points.new ≡ run_after filings.now (begun (state J.Journal M.Management book.old) tariff.now number sum localities.old points.old) calls.now) }
+    ensures refused { IfErr result (λ _. (standing (state J.Journal M.Management book.new) localities.new points.new ≡ standing (state J.Journal M.Management book.old) localities.old points.old) × (answers.new ≡ answers.old)) }
+    ensures rules { IfOk result (λ _. AlwaysInOrder tariff.now sum filings.now (begun (state J.Journal M.Management book.old) tariff.now number sum localities.old points.old) calls.now answers.new) }
+{
+    if calls.len() > answers.len() {
+        return Err(Reason::PastTable.at(0));
+    }
+    book.open(tariff, number, sum, localities, points)?;
+    run(book, localities, points, filings, calls, answers);
+    Ok(())
 }

@@ -1,0 +1,136 @@
+-- What a granted filing, enrolling and bill say of the tables.
+use Rattle.std.proofs.Common.{◌≡◌, ℕ, ◌<◌, Bool, true, false, not, cond, ltb, leb, eqb, List, ◌∷◌, length, get_or, ℤ, is_some, Some, None, Ok, Option, refl, sym, ap, subst, ◌∙◌}
+use Rattle.std.proofs.lemmas.Bool.{ltb-true, eqb-true, false≢true}
+use Rattle.units.specs.declared.refusal.Refusal.{Refusal}
+use Rattle.limits.specs.First.{unless, first_of}
+use Rattle.limits.specs.Checked.{faultless}
+use Rattle.tariff.specs.declared.figures.TariffFigures.{TariffFigures}
+use Rattle.tables.specs.declared.rows.LocalityRow.{LocalityRow}
+use Rattle.tables.specs.declared.rows.PointRow.{PointRow}
+use Rattle.tables.specs.Blank.{no_point, past_table}
+use Rattle.tables.specs.Filings.{change_fault, odds_fault, fault_of, filing_fault, limit_fault, locality_stands}
+use Rattle.tables.specs.Lookups.{locality_at, point_at}
+use Rattle.tables.specs.PointRows.{point_stands}
+use Rattle.revenue.specs.Owners.{seat}
+use Rattle.company.specs.declared.record.Event.TheVariants.{File, Enrol, Bill as BillEvent}
+use Rattle.calls.specs.declared.billing.Charged.{Charged}
+use Rattle.calls.specs.declared.enrolling.Enrolment.{Enrolment}
+use Rattle.calls.specs.Decisions.{Companies, company_at, tables_fit, after_event, enrolled_within, filing, enrolling, seated, billing}
+use Rattle.book.proofs.Granted.{when_granted, found_granted, next_granted, same}
+use Rattle.book.proofs.QuietLaws.{not_standing}
+use Rattle.yearly.proofs.Foreign.{Active, active_at}
+
+-- ---- Filing
+
+first_none : (a : Option ℕ) (more : List (Option ℕ)) → first_of (a ∷ more) ≡ None → a ≡ None
+first_none None more none = refl
+first_none (Some n) more none = cc
+
+unless_none : (fits : Bool) (n : ℕ) → unless fits n ≡ None → fits ≡ true
+unless_none true n none = refl
+unless_none false n none = cc
+
+no_odds : (limit odds : Option ℕ) → fault_of limit odds ≡ None → odds ≡ None
+no_odds None None none = refl
+no_odds None (Some n) none = cc
+no_odds (Some m) odds none = cc
+
+keeps_company : (old new : LocalityRow) → odds_fault (Some old) new ≡ None → new.company ≡ old.company
+unfolding odds_fault
+keeps_company old new none =
+    eqb-true new.company old.company (unless_none (eqb new.company old.company) 0 (first_none _ _ (first_none (change_fault (Some old) new) _ none)))
+
+-- where a locality stood, it was the company's
+stood_keeps : (stood : Bool) (old new : LocalityRow) → odds_fault (cond stood (Some old) None) new ≡ None → stood ≡ true → old.company ≡ new.company
+stood_keeps true old new none stands = sym (keeps_company old new none)
+stood_keeps false old new none stands = absurd (false≢true stands)
+
+no_fault : (fault : Option Refusal) (row filed : LocalityRow) → faultless fault row ≡ Ok filed → (fault ≡ None) × (row ≡ filed)
+no_fault None row filed granted = (refl, same row filed granted)
+no_fault (Some refused) row filed granted = cc
+
+pub record Filed (companies : Companies) (localities : List LocalityRow) (place : ℕ) (row filed : LocalityRow) : Type 0 where
+  pub within : place < length localities
+  pub active : Active companies row.company
+  pub keeps : locality_stands (get_or localities place past_table) ≡ true → (get_or localities place past_table).company ≡ row.company
+  pub is : filed ≡ row
+
+pub filing_granted : (companies : Companies) (localities : List LocalityRow) (place : ℕ) (row filed : LocalityRow) → filing companies localities place row ≡ Ok filed → Filed companies localities place row filed
+filing_granted companies localities place row filed granted =
+    let fit = when_granted (leb (length localities) 256) _ _ _ filed granted in
+    let place_in = when_granted (ltb place (length localities)) _ _ _ filed fit.1 in
+    let company_in = when_granted (ltb row.company 16) _ _ _ filed place_in.1 in
+    let company = found_granted (company_at companies row.company) _ _ filed company_in.1 in
+    let fault = filing_fault (locality_at localities place) row in
+    let good = next_granted (faultless fault row) _ filed company.2 in
+    let none = no_fault fault row good.0 good.1 in
+    let open_company = next_granted (after_event company.0 row.company File) _ filed good.2 in
+    let old = get_or localities place past_table in
+    record {
+      within = ltb-true _ _ place_in.0;
+      active = active_at companies row.company company.0 File open_company.0 company.1 refl open_company.1;
+      keeps = stood_keeps (locality_stands old) old row (no_odds (limit_fault row) (odds_fault (locality_at localities place) row) none.0);
+      is = sym (same _ filed open_company.2) ∙ sym none.1;
+    }
+
+-- ---- A row that stands
+
+standing_row : {R : Type 0} (stands : Bool) (row found : R) → cond stands (Some row) None ≡ Some found → row ≡ found
+standing_row true row found stood = cc
+standing_row false row found stood = cc
+
+seat_is : (localities : List LocalityRow) (place : ℕ) (l : LocalityRow) → locality_at localities place ≡ Some l → get_or localities place past_table ≡ l
+seat_is localities place l stood = standing_row (locality_stands (get_or localities place past_table)) (get_or localities place past_table) l stood
+
+-- ---- Enrolling
+
+-- the row of a point of which nothing is billed
+abbrev pub unbilled : Enrolment → PointRow
+unbilled e = record { locality = e.locality; class = e.class; domestic = e.domestic; volume = 0; days = 0 }
+
+enrolled_row : (e : Enrolment) (row : PointRow) → enrolled_within e.locality e.class e.domestic ≡ Ok row → row ≡ unbilled e
+enrolled_row e row granted =
+    let of_class = when_granted _ _ _ _ row granted in
+    let of_use = when_granted _ _ _ _ row of_class.1 in
+    sym (same _ row of_use.1)
+
+pub record Enrolled (companies : Companies) (localities : List LocalityRow) (points : List PointRow) (point : ℕ) (e : Enrolment) (row : PointRow) : Type 0 where
+  pub within : point < length points
+  pub blank : point_stands (get_or points point no_point) ≡ false
+  pub active : Active companies (get_or localities e.locality past_table).company
+  pub is : row ≡ unbilled e
+
+pub enrolling_granted : (companies : Companies) (localities : List LocalityRow) (points : List PointRow) (point : ℕ) (e : Enrolment) (row : PointRow) → enrolling companies localities points point e.locality e.class e.domestic ≡ Ok row → Enrolled companies localities points point e row
+enrolling_granted companies localities points point e row granted =
+    let fit = when_granted (tables_fit localities points) _ _ _ row granted in
+    let point_in = when_granted (ltb point (length points)) _ _ _ row fit.1 in
+    let locality_in = when_granted (ltb e.locality (length localities)) _ _ _ row point_in.1 in
+    let locality = found_granted (locality_at localities e.locality) _ _ row locality_in.1 in
+    let company = found_granted (company_at companies locality.0.company) _ _ row locality.2 in
+    let free = when_granted (not (is_some (point_at points point))) _ _ _ row company.2 in
+    let new = next_granted (enrolled_within e.locality e.class e.domestic) _ row free.1 in
+    let open_company = next_granted (after_event company.0 locality.0.company Enrol) _ row new.2 in
+    let seat : (get_or localities e.locality past_table).company ≡ locality.0.company = ap (λ (l : LocalityRow). l.company) (seat_is localities e.locality locality.0 locality.1) in
+    record {
+      within = ltb-true _ _ point_in.0;
+      blank = not_standing (point_stands (get_or points point no_point)) (get_or points point no_point) free.0;
+      active = subst (Active companies) (sym seat) (active_at companies locality.0.company company.0 Enrol open_company.0 company.1 refl open_company.1);
+      is = sym (same _ row open_company.2) ∙ enrolled_row e new.0 new.1;
+    }
+
+-- ---- A bill
+
+-- the company of a point that is billed is open
+pub billing_active : (t : TariffFigures) (companies : Companies) (localities : List LocalityRow) (points : List PointRow) (point : ℕ) (dv dd : ℤ) (c : Charged) → billing t companies localities points point dv dd ≡ Ok c → Active companies (seat localities (get_or points point no_point)).company
+billing_active t companies localities points point dv dd c granted =
+    let old = get_or points point no_point in
+    let seating = next_granted (seated companies localities points point) _ c granted in
+    let fit = when_granted (tables_fit localities points) _ _ _ seating.0 seating.1 in
+    let point_in = when_granted (ltb point (length points)) _ _ _ seating.0 fit.1 in
+    let p = found_granted (point_at points point) _ _ seating.0 point_in.1 in
+    let l = found_granted (locality_at localities p.0.locality) _ _ seating.0 p.2 in
+    let company = found_granted (company_at companies l.0.company) _ _ seating.0 l.2 in
+    let open_company = next_granted (after_event company.0 l.0.company BillEvent) _ seating.0 company.2 in
+    let row : old ≡ p.0 = standing_row (point_stands old) old p.0 p.1 in
+    let seat : (seat localities old).company ≡ l.0.company = ap (λ (q : PointRow). (seat localities q).company) row ∙ ap (λ (x : LocalityRow). x.company) (seat_is localities p.0.locality l.0 l.1) in
+    subst (Active companies) (sym seat) (active_at companies l.0.company company.0 BillEvent open_company.0 company.1 refl open_company.1)

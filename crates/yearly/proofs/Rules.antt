@@ -1,0 +1,145 @@
+-- The three rules of a year, from the tie.
+use Rattle.std.proofs.Common.{leb, length, Ok, ◌≡◌, ◌≢◌, ℕ, ◌+◌, ◌*◌, ◌≤◌, true, List, [], get_or, ℤ, pos, ◌+ℤ◌, ◌-ℤ◌, Some, None, Option, refl, sym, ap, subst, ◌∙◌, arith}
+use Rattle.std.proofs.lemmas.Bool.{false≢true, cond-true}
+use Rattle.std.proofs.lemmas.List.FromFn.{fill_by_all}
+use borrow.Author.Differences.{ints}
+use Rattle.units.specs.declared.amounts.Cents.{Cents}
+use Rattle.rounding.specs.Frac.{plus, minus}
+use Rattle.rounding.specs.Nearness.{Near}
+use Rattle.rounding.specs.Sums.{count_if}
+use Rattle.rounding.proofs.Nears.{near_sub}
+use Rattle.tables.specs.declared.rows.LocalityRow.{LocalityRow}
+use Rattle.tables.specs.declared.rows.PointRow.{PointRow}
+use Rattle.tables.specs.Blank.{no_locality, no_point}
+use Rattle.revenue.specs.Owners.{owns, serves}
+use Rattle.revenue.specs.Billed.{billed, exact_tariff}
+use Rattle.revenue.specs.Recognised.{recognised_revenue, exact_revenue}
+use Rattle.revenue.specs.Ug1.{ug1_due}
+use Rattle.revenue.proofs.Nearing.{near_revenue, near_billed}
+use Rattle.company.specs.declared.figures.TermsFigures.{TermsFigures}
+use Rattle.company.specs.declared.record.Company.{Company}
+use Rattle.company.specs.declared.record.Phase.{Phase}
+use Rattle.company.specs.declared.record.Phase.TheVariants.{Free, Drawn, Sent, Closed}
+use Rattle.book.specs.Calls.{State}
+use Rattle.book.specs.JournalSums.{paid_to, advances_of}
+use Rattle.book.specs.Questions.{account}
+use Rattle.book.specs.Laws.{outs, account_in}
+use Rattle.yearly.specs.Histories.{History, terms_of, closed_in, drawn, taken_back}
+use Rattle.yearly.specs.YearRules.{Year, locality, localities, point, points, price_of, ClosingRule, instalments, AdvanceRule, YearRules}
+use Rattle.yearly.proofs.Stories.{is_closed, Held}
+use Rattle.yearly.proofs.Ties.{Fixed, Moving, story, Settled, state_at, Tied, Stands}
+
+phase_closed : (p : Phase) → is_closed p ≡ true → p ≡ Closed
+phase_closed Free closed = absurd (false≢true closed)
+phase_closed (Drawn k) closed = absurd (false≢true closed)
+phase_closed (Sent k) closed = absurd (false≢true closed)
+phase_closed Closed closed = refl
+
+one_out : (p : Phase) → outs p ≤ 1
+one_out Free = omega arith
+one_out (Drawn k) = omega arith
+one_out (Sent k) = omega arith
+one_out Closed = omega arith
+
+abbrev pub year_at : Fixed → History → State → Year
+year_at y h s =
+    record {
+      tariff = y.tariff.figures;
+      sum = y.sum;
+      price = y.price;
+      places = y.places;
+      seats = y.seats;
+      filings = y.filings;
+      history = h;
+      journal = s.book.entries;
+    }
+
+module _ (y : Fixed) (h : History) (m : Moving) (T : Tied y h m) where
+  abbrev year : Year
+  year = year_at y h (state_at y m)
+
+  -- the tables by history and journal are the lent ones
+  points_are : m.points ≡ points year
+  points_are = fill_by_all (point year) m.points y.places no_point T.places (λ k within. (T.points k).is)
+
+  localities_are : m.localities ≡ localities year
+  localities_are = fill_by_all (locality year) m.localities y.seats no_locality T.seats (λ k within. T.localities k)
+
+  -- ---- The closing rule
+
+  abbrev ToTheCent : (company : ℕ) (f : TermsFigures) → List LocalityRow → List PointRow → Type 0
+  ToTheCent company f ls ps = pos (billed y.tariff.figures ls ps company) +ℤ paid_to m.entries company ≡ pos (recognised_revenue y.tariff.figures (price_of year f) f.verification f.central ls ps company)
+
+  closing : (company : ℕ) (f : TermsFigures) → ToTheCent company f (localities year) (points year) → ClosingRule year company f
+  closing company f cents =
+      let t = y.tariff.figures in
+      let ls = localities year in
+      let ps = points year in
+      let exact = plus (exact_revenue t (price_of year f) f.verification f.central ls ps company) (minus (exact_tariff t ls ps company)) in
+      let halves = 12 * count_if (owns company) ls + 4 + 4 * count_if (serves ls company) ps in
+      let near =
+      near_sub (exact_revenue t (price_of year f) f.verification f.central ls ps company) (exact_tariff t ls ps company)
+      (pos (recognised_revenue t (price_of year f) f.verification f.central ls ps company)) (pos (billed t ls ps company)) _ _
+      (near_revenue t (price_of year f) f.verification f.central ls ps company) (near_billed t ls ps company) in
+      let paid : pos (recognised_revenue t (price_of year f) f.verification f.central ls ps company) -ℤ pos (billed t ls ps company) ≡ paid_to m.entries company = omega (arith, ints, cents) in
+      record { cents = cents; exact = subst (λ (z : ℤ). Near exact z halves) paid near }
+
+  closing_at : (company : ℕ) (slot : Option Company) → Held slot (story h m.entries company) → Settled y m.localities m.points company slot → (f : TermsFigures) → terms_of h company ≡ Some f → closed_in h company ≡ true → ClosingRule year company f
+  closing_at company None held settled f registered closed = absurd (false≢true (sym held.closed ∙ closed))
+  closing_at company (Some c) held settled f registered closed =
+      let same : c.terms.figures ≡ f = cc in
+      let balances = settled (phase_closed c.phase (sym held.closed ∙ closed)) in
+      let lent : ToTheCent company c.terms.figures m.localities m.points = omega (arith, ints, held.paid, balances) in
+      closing company f
+      (subst (λ (ps : List PointRow). ToTheCent company f (localities year) ps) points_are
+      (subst (λ (ls : List LocalityRow). ToTheCent company f ls m.points) localities_are
+      (subst (λ (g : TermsFigures). ToTheCent company g m.localities m.points) same lent)))
+
+  -- ---- The advance rule
+
+  advance_at : (company : ℕ) (slot : Option Company) → Held slot (story h m.entries company) → (f : TermsFigures) → terms_of h company ≡ Some f → AdvanceRule year company f
+  advance_at company None held f registered = cc
+  advance_at company (Some c) held f registered =
+      let same : c.terms.figures ≡ f = cc in
+      let one = one_out c.phase in
+      record {
+        advances = held.advances ∙ (λ z. instalments (same z) (sym held.confirmed z));
+        out = omega (arith, held.out);
+        one = omega (arith, held.out, one);
+        closed = λ closed.
+            let none = ap outs (phase_closed c.phase (sym held.closed ∙ closed)) in
+            omega (arith, held.out, none);
+      }
+
+  -- ---- A company that did not register
+
+  stranger : (company : ℕ) (slot : Option Company) → Held slot (story h m.entries company) → terms_of h company ≡ None → (closed_in h company ≢ true) × (advances_of m.entries company ≡ []) × (drawn h company ≡ 0) × (taken_back h company ≡ 0)
+  stranger company None held none = (λ closed. false≢true (sym held.closed ∙ closed), held.advances, held.drawn, held.taken_back)
+  stranger company (Some c) held none = cc
+
+  rules : YearRules year (account_in (state_at y m).book.opened m.points)
+  rules =
+      record {
+        closing = λ company f. closing_at company (get_or m.companies company None) (T.companies company) (T.settled company) f;
+        registered = λ company none. (stranger company (get_or m.companies company None) (T.companies company) none).0;
+        account = λ z. y.sum +ℤ pos (ug1_due y.tariff.figures (points_are z)) -ℤ T.spent z;
+        advance = λ company f. advance_at company (get_or m.companies company None) (T.companies company) f;
+        strangers = λ company none. let s = stranger company (get_or m.companies company None) (T.companies company) none in (s.1, s.2, s.3);
+        sound = λ place.
+            let tied = T.points place in
+            (ap (λ (p : PointRow). pos p.volume) (sym tied.is) ∙ tied.volume, ap (λ (p : PointRow). pos p.days) (sym tied.is) ∙ tied.days);
+      }
+
+  -- the account that the book tells
+  account_told : leb y.places 65536 ≡ true → account (state_at y m).book m.points ≡ Ok (record { 0 = account_in (state_at y m).book.opened m.points })
+  account_told few = cond-true (leb (length m.points) 65536) _ _ (ap (λ (n : ℕ). leb n 65536) T.places ∙ few)
+
+-- the rules hold in a state that is tied to a history
+abbrev pub Ordered : Fixed → History → State → Type 0
+Ordered y h s = (told : Cents) × (account s.book s.points ≡ Ok told) × YearRules (year_at y h s) told.0
+
+pub rules_stand : (y : Fixed) (h : History) (s : State) → leb y.places 65536 ≡ true → Stands y h s → Ordered y h s
+rules_stand y h s few stands =
+    let m = stands.m in
+    let ordered : Ordered y h (state_at y m) = (record { 0 = account_in (state_at y m).book.opened m.points }, account_told y h m stands.tied few, rules y h m stands.tied) in
+    subst (Ordered y h) (sym stands.is) ordered

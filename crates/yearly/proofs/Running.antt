@@ -1,0 +1,119 @@
+-- Every list of calls keeps the tie, from a granted opening on.
+use Rattle.std.proofs.Common.{leb, ◌≡◌, ℕ, zero, suc, not, eqb, List, [], ◌∷◌, ◌++◌, length, take, replicate, ℤ, pos, is_some, None, Ok, Option, Result, refl, sym, ap, subst, ◌∙◌}
+use Rattle.std.proofs.lemmas.Bool.{eqb-true, and_parts}
+use Rattle.std.proofs.lemmas.List.{length-replicate}
+use Rattle.units.specs.declared.refusal.Refusal.{Refusal}
+use Rattle.journal.specs.declared.entry.Entry.{Entry}
+use Rattle.tariff.specs.declared.table.Tariff.{Tariff}
+use Rattle.tables.specs.declared.rows.LocalityRow.{LocalityRow}
+use Rattle.tables.specs.declared.rows.PointRow.{PointRow}
+use Rattle.tables.specs.Blank.{no_locality, no_point}
+use Rattle.company.specs.declared.record.Company.{Company}
+use Rattle.calls.specs.declared.call.Call.{Call}
+use Rattle.calls.specs.declared.call.Call.TheVariants.{Register, File, Enrol, Bill, Draw, Cancel, Send, Confirm, Bounce, Close, Reopen, Ask}
+use Rattle.calls.specs.Decisions.{tables_fit}
+use Rattle.book.specs.declared.answer.Granted.{Granted}
+use Rattle.book.specs.States.{BookState}
+use Rattle.book.specs.Companies.{registered, drawing, cancelling, sending, confirming, bouncing}
+use Rattle.book.specs.Rows.{filing, enrolling, billing}
+use Rattle.book.specs.Closings.{closing, reopening}
+use Rattle.book.specs.Openings.{opening, opened_by, blanked}
+use Rattle.book.specs.Calls.{State, filed_row, answer_to, after_call}
+use Rattle.book.proofs.Granted.{when_granted}
+use Rattle.yearly.specs.Histories.{History}
+use Rattle.yearly.specs.Runs.{standing, begun, run_answers, run_after, history_after, AlwaysInOrder}
+use Rattle.yearly.proofs.Writing.{blank_at}
+use Rattle.yearly.proofs.Stories.{Held, Untold}
+use Rattle.yearly.proofs.Ties.{Fixed, Moving, book_at, state_at, story, Settled, PointTied, Tied, Stands, asked}
+use Rattle.yearly.proofs.CompanySteps.{draw_step, cancel_step, send_step, bounce_step, reopen_step, register_step}
+use Rattle.yearly.proofs.PayingSteps.{confirm_step, close_step}
+use Rattle.yearly.proofs.TableSteps.{file_step, enrol_step, bill_step}
+use Rattle.yearly.proofs.Rules.{rules_stand}
+
+-- ---- One call
+tied_step : (y : Fixed) (h : History) (m : Moving) → Tied y h m → (c : Call) → Stands y ((c, answer_to y.filings (state_at y m) c) ∷ h) (after_call y.filings (state_at y m) c)
+tied_step y h m T (Register company f) = register_step y h m T company f (registered (book_at y m.companies m.entries) company f) refl
+tied_step y h m T (File place n) = file_step y h m T place n (filing (book_at y m.companies m.entries) m.localities place (filed_row y.filings n)) refl
+tied_step y h m T (Enrol point e) = enrol_step y h m T point e (enrolling (book_at y m.companies m.entries) m.localities m.points point e) refl
+tied_step y h m T (Bill point change) = bill_step y h m T point change (billing (book_at y m.companies m.entries) m.localities m.points point change.volume change.days) refl
+tied_step y h m T (Draw company) = draw_step y h m T company (drawing (book_at y m.companies m.entries) company) refl
+tied_step y h m T (Cancel o) = cancel_step y h m T o (cancelling (book_at y m.companies m.entries) o) refl
+tied_step y h m T (Send o) = send_step y h m T o (sending (book_at y m.companies m.entries) o) refl
+tied_step y h m T (Confirm o) = confirm_step y h m T o (confirming (book_at y m.companies m.entries) o) refl
+tied_step y h m T (Bounce o) = bounce_step y h m T o (bouncing (book_at y m.companies m.entries) o) refl
+tied_step y h m T (Close company) = close_step y h m T company (closing (book_at y m.companies m.entries) m.localities m.points company) refl
+tied_step y h m T (Reopen company) = reopen_step y h m T company (reopening (book_at y m.companies m.entries) company) refl
+tied_step y h m T (Ask q) = record { m = m; is = refl; tied = asked y h m T q (answer_to y.filings (state_at y m) (Ask q)) }
+
+step : (y : Fixed) (h : History) (s : State) → Stands y h s → (c : Call) → Stands y ((c, answer_to y.filings s c) ∷ h) (after_call y.filings s c)
+step y h s stands c =
+    subst (λ (s : State). Stands y ((c, answer_to y.filings s c) ∷ h) (after_call y.filings s c)) (sym stands.is) (tied_step y h stands.m stands.tied c)
+
+-- ---- The first n of a list of calls, whatever answers stand behind theirs
+run_stands : (y : Fixed) (n : ℕ) (calls : List Call) (more : List (Result Granted Refusal)) (h : History) (s : State) → Stands y h s → Stands y (history_after h (take n calls) (run_answers y.filings s calls ++ more)) (run_after y.filings s (take n calls))
+run_stands y zero calls more h s stands = stands
+run_stands y (suc n) [] more h s stands = stands
+run_stands y (suc n) (c ∷ cs) more h s stands =
+    run_stands y n cs more ((c, answer_to y.filings s c) ∷ h) (after_call y.filings s c) (step y h s stands c)
+
+-- ---- The beginning
+no_entries : (es : List Entry) → length es ≡ 0 → es ≡ []
+no_entries [] none = refl
+no_entries (e ∷ es) none = cc
+
+nothing_told : (company : ℕ) → Untold (story [] [] company)
+nothing_told company = record { terms = refl; advances = refl; paid = refl; drawn = refl; confirmed = refl; taken_back = refl; closed = refl }
+
+blank_tied : PointTied no_point None (pos 0) (pos 0)
+blank_tied = record { is = refl; volume = refl; days = refl; blank = λ _. (refl, refl) }
+
+module _ (b : BookState) (tariff : Tariff) (number : ℕ) (sum : ℤ) (filings localities : List LocalityRow) (points : List PointRow) where
+  abbrev year_fixed : Fixed
+  year_fixed =
+      record {
+        tariff = tariff;
+        number = number;
+        sum = sum;
+        room = b.room;
+        price = b.price;
+        filings = filings;
+        seats = length (replicate (length localities) no_locality);
+        places = length (replicate (length points) no_point);
+      }
+
+  abbrev blank_moving : List Entry → Moving
+  blank_moving entries =
+      record { companies = replicate 16 None; entries = entries; localities = replicate (length localities) no_locality; points = replicate (length points) no_point }
+
+  begun_tied : Tied year_fixed [] (blank_moving [])
+  begun_tied =
+      record {
+        long = refl;
+        seats = refl;
+        places = refl;
+        companies = λ i. subst (λ (slot : Option Company). Held slot (story [] [] i)) (sym (blank_at 16 i None)) (nothing_told i);
+        localities = λ i. blank_at (length localities) i no_locality;
+        points = λ i. subst (λ (p : PointRow). PointTied p None (pos 0) (pos 0)) (sym (blank_at (length points) i no_point)) blank_tied;
+        settled = λ i. subst (Settled year_fixed (blank_moving []).localities (blank_moving []).points i) (sym (blank_at 16 i None)) tt;
+        spent = refl;
+      }
+
+  pub always_in_order : opening b number sum localities points ≡ Ok tt → (calls : List Call) (more : List (Result Granted Refusal)) → AlwaysInOrder tariff sum filings (begun b tariff number sum localities points) calls (run_answers filings (begun b tariff number sum localities points) calls ++ more)
+  always_in_order granted calls more n =
+      let closed = when_granted (not (is_some b.opened)) _ _ _ tt granted in
+      let empty = when_granted (eqb (length b.entries) 0) _ _ _ tt closed.1 in
+      let none = no_entries b.entries (eqb-true (length b.entries) 0 empty.0) in
+      let fit = when_granted (tables_fit localities points) _ _ _ tt empty.1 in
+      let few = ap (λ (n : ℕ). leb n 65536) (length-replicate (length points) no_point) ∙ (and_parts (leb (length localities) 256) (leb (length points) 65536) fit.0).1 in
+      let s = begun b tariff number sum localities points in
+      let stands : Stands year_fixed [] s = record { m = blank_moving b.entries; is = refl; tied = subst (λ (es : List Entry). Tied year_fixed [] (blank_moving es)) (sym none) begun_tied } in
+      rules_stand year_fixed _ _ few (run_stands year_fixed n calls more [] s stands)
+
+  -- the same for what an opening left, and for answers that a run wrote
+  pub ran_in_order : (result : Result (Unit {0}) Refusal) (z : ℤ) (after : BookState) (localities' : List LocalityRow) (points' : List PointRow) (calls : List Call) (answers more : List (Result Granted Refusal)) → result ≡ Ok tt → z ≡ sum → result ≡ opening b number z localities points → after ≡ opened_by b tariff number z result → localities' ≡ blanked no_locality localities result → points' ≡ blanked no_point points result → answers ≡ run_answers filings (standing after localities' points') calls ++ more → AlwaysInOrder tariff sum filings (begun b tariff number sum localities points) calls answers
+  ran_in_order result z after localities' points' calls answers more granted same answer opened localities_are points_are wrote =
+      let grants : opening b number sum localities points ≡ Ok tt = ap (λ (w : ℤ). opening b number w localities points) (sym same) ∙ sym answer ∙ granted in
+      let left : standing after localities' points' ≡ begun b tariff number sum localities points =
+      λ i. standing ((opened ∙ (λ j. opened_by b tariff number (same j) (granted j))) i) ((localities_are ∙ ap (blanked no_locality localities) granted) i) ((points_are ∙ ap (blanked no_point points) granted) i) in
+      let wrote_begun = wrote ∙ ap (λ (s : State). run_answers filings s calls ++ more) left in
+      subst (AlwaysInOrder tariff sum filings (begun b tariff number sum localities points) calls) (sym wrote_begun) (always_in_order grants calls more)
