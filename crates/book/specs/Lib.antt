@@ -8,3 +8,4 @@ pub mod Closings
 pub mod Calls
 pub mod JournalSums
 pub mod Laws
+pub mod ClosedLists

@@ -5,6 +5,7 @@ use crate::opened::Opened;
 use journal::kept::Journal;
 use management::rule::Management;
 
+mod closed;
 mod closing;
 mod obeys;
 mod opening;

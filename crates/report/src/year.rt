@@ -105,7 +105,11 @@ pub fn write_company<W: fmt::Write, J: Journal, M: Management>(
     write_revenue(out, &year.revenue)?;
     write_amount(out, "less lines 1 to 4 billed", year.billed)?;
     write_amount(out, "less advances", year.company.advances())?;
-    write_amount(out, "less balances", Cents(i128::from(year.company.balances)))?;
+    write_amount(
+        out,
+        "less balances",
+        Cents(i128::from(year.company.balances)),
+    )?;
     write_amount(out, "balance due", year.due)
 }
 

@@ -6,7 +6,7 @@ use bookfile::file::Unread;
 use bookfile::naming::figure_at;
 use bookfile::statement::Statement;
 use report::refused::Refused;
-use std::alloc::AllocError;
+use std::alloc::{AllocError, AllocFailed};
 use std::error::Error;
 use std::{fmt, io};
 use units::refusal::Refusal;
@@ -46,6 +46,14 @@ impl From<AllocError> for Failure {
     ghost from_gives = { λ _ r. r ≡ Memory };
 
     fn from(_e: AllocError) -> Failure {
+        Failure::Memory
+    }
+}
+
+impl<T: Drop> From<AllocFailed<T>> for Failure {
+    ghost from_gives = { λ _ r. r ≡ Memory };
+
+    fn from(_e: AllocFailed<T>) -> Failure {
         Failure::Memory
     }
 }

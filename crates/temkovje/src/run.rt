@@ -16,7 +16,8 @@ use tables::lookup::record_at;
 use tables::rows::{LocalityRow, MOST_LOCALITIES, MOST_POINTS, PointRow, Row};
 use tariff::table::Tariff;
 use units::amounts::PointPrice;
-use units::refusal::Refusal;
+use units::refusal::{Reason, Refusal};
+use yearly::run::run_year;
 
 /// Reads a book file and runs its calls; a file that is malformed, or whose tariff table, management rule or opening is refused, runs none.
 pub fn run_book(heap: Global, text: &str) -> Result<String, Failure> {
@@ -57,13 +58,28 @@ fn run_calls<J: Journal, M: Management>(
     let localities = localities.as_mut_slice();
     let points = points.as_mut_slice();
     let opening = file.opening;
-    book.open(tariff, opening.number, opening.sum, localities, points)
-        .map_err(|refusal| Failure::Opening(refusal))?;
     let filings = file.filings.as_slice();
-    let mut out = String::new(heap);
+    let mut calls = Vec::new(heap);
     for numbered in file.calls.iter() {
-        let answer = book.obey(localities, points, filings, numbered.call);
-        write_answer(&mut out, filings, numbered.call, answer)?;
+        calls.push(numbered.call)?;
+    }
+    let unanswered = Err(Reason::BookNotOpen.at(0));
+    let mut answers = vec![in heap; unanswered; calls.len()]?;
+    run_year(
+        book,
+        tariff,
+        opening.number,
+        opening.sum,
+        localities,
+        points,
+        filings,
+        calls.as_slice(),
+        answers.as_mut_slice(),
+    )
+    .map_err(|refusal| Failure::Opening(refusal))?;
+    let mut out = String::new(heap);
+    for (call, answer) in calls.iter().zip(answers.iter()) {
+        write_answer(&mut out, filings, *call, *answer)?;
     }
     write_year(&mut out, tariff, book, localities, points)?;
     Ok(out)
