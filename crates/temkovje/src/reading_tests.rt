@@ -148,7 +148,8 @@ bill point=65535 volume=-9223372036854775808 days=9223372036854775807\nbill days
 opening sum=-5 number=65536\njournal capacity=3
 draw company=17\ncancel company=2 book=1 instalment=255\nsend company=2 book=1 instalment=3
 confirm company=2 book=1 instalment=4\nbounce company=2 book=18446744073709551615 instalment=0
-cost locality=5 service=2\ncomponent service=1 locality=6\nserved company=7\nrevenue company=8\nbalance company=9\naccount";
+cost locality=5 service=2\ncomponent service=1 locality=6\nserved company=7\nrevenue company=8\nbalance company=9\naccount
+close company=10\nreopen company=11";
 
 fn good(heap: Global) -> Result<BookFile, Fail> {
     Ok(read(heap, GOOD).ok().ok_or("malformed")?)
@@ -180,6 +181,8 @@ fn calls_keep_their_lines(rt: HostRuntime) -> Result<(), Fail> {
 26: Revenue { company: 8 }
 27: BalanceDue { company: 9 }
 28: Account
+29: close 10
+30: reopen 11
 "
     );
     Ok(())
@@ -211,6 +214,8 @@ fn listed(heap: Global, numbered: NumberedCall) -> Result<String, Fail> {
         Call::Send(order) => listed_order(heap, line, "send", order)?,
         Call::Confirm(order) => listed_order(heap, line, "confirm", order)?,
         Call::Bounce(order) => listed_order(heap, line, "bounce", order)?,
+        Call::Close { company } => format!(in heap; "{line}: close {company}\n")?,
+        Call::Reopen { company } => format!(in heap; "{line}: reopen {company}\n")?,
         Call::Ask(question) => format!(in heap; "{line}: {question:?}\n")?,
     })
 }

@@ -57,7 +57,7 @@ locality 255: refusal 8 (layer 2, tables) at figure 14: the figures are at odds 
 point 65535: refusal 5 (layer 2, tables) at place 255: nothing stands at a place that the call needs
 bill of point 65536: refusal 4 (layer 2, tables) at place 65536: the place lies past its table, or a table or list has a wrong length
 
-company 15: 0.000 points served in regime, 0.000 in start-up
+company 15, open: 0.000 points served in regime, 0.000 in start-up
   localities                                        0 cents
   operating                                         0 cents
   start-up                                          0 cents
@@ -68,6 +68,7 @@ company 15: 0.000 points served in regime, 0.000 in start-up
   recognised revenue                                0 cents
   less lines 1 to 4 billed                          0 cents
   less advances                                     0 cents
+  less balances                                     0 cents
   balance due                                       0 cents
 
 equalisation account: 0 cents
@@ -133,7 +134,7 @@ locality 0 of company 0, in start-up: 0 expected points, 0 smart points
   unit component of distribution: refusal 17 (layer 2, tables) at locality 0: the locality has no expected points
   unit component of metering: refusal 17 (layer 2, tables) at locality 0: the locality has no expected points
 
-company 0: 0.000 points served in regime, 0.000 in start-up
+company 0, open: 0.000 points served in regime, 0.000 in start-up
   localities                                        0 cents
   operating                                         0 cents
   start-up                                          0 cents
@@ -144,6 +145,7 @@ company 0: 0.000 points served in regime, 0.000 in start-up
   recognised revenue                                0 cents
   less lines 1 to 4 billed                        480 cents
   less advances                                     0 cents
+  less balances                                     0 cents
   balance due                                    -480 cents
 
 equalisation account: 5 cents
@@ -198,7 +200,7 @@ locality 255 of company 15, in start-up: 10000000 expected points, 10000000 smar
   unit component of distribution                    0 millionths of a euro
   unit component of metering                        0 millionths of a euro
 
-company 15: 0.000 points served in regime, 1.000 in start-up
+company 15, open: 0.000 points served in regime, 1.000 in start-up
   localities                                        0 cents
   operating                                         0 cents
   start-up                                          0 cents
@@ -209,6 +211,7 @@ company 15: 0.000 points served in regime, 1.000 in start-up
   recognised revenue                    2000000100000 cents
   less lines 1 to 4 billed               200000200000 cents
   less advances                                     0 cents
+  less balances                                     0 cents
   balance due                           1799999900000 cents
 
 equalisation account: 0 cents
@@ -268,7 +271,7 @@ locality 0 of company 0, in regime: 0 expected points, 0 smart points
   unit component of distribution: refusal 17 (layer 2, tables) at locality 0: the locality has no expected points
   unit component of metering: refusal 17 (layer 2, tables) at locality 0: the locality has no expected points
 
-company 0: 0.000 points served in regime, 0.000 in start-up
+company 0, open with an order sent: 0.000 points served in regime, 0.000 in start-up
   localities                                        0 cents
   operating                                         0 cents
   start-up                                          0 cents
@@ -279,6 +282,7 @@ company 0: 0.000 points served in regime, 0.000 in start-up
   recognised revenue                                0 cents
   less lines 1 to 4 billed                          0 cents
   less advances                                     0 cents
+  less balances                                     0 cents
   balance due                                       0 cents
 
 equalisation account: 0 cents
