@@ -1,6 +1,5 @@
 -- The worked year closed, reopened, corrected by a bill and closed again.
-use Rattle.std.specs.Prelude.{ℕ, [], ◌∷◌, List, ℤ, pos, neg_ℤ, replicate, Some, None, Ok, Option, slice_index_or, refl}
-use Rattle.limits.specs.First.{first_of}
+use Rattle.std.specs.Prelude.{[], ◌∷◌, List, pos, neg_ℤ, replicate, Some, None, slice_index_or, refl}
 use Rattle.tariff.specs.declared.table.Tariff.{Tariff}
 use Rattle.tariff.specs.Limits.{fixed_tests, variable_tests, cost_tests, first_bad_figure}
 use Rattle.tables.specs.declared.rows.LocalityRow.{LocalityRow}

@@ -1,5 +1,5 @@
 -- What the figures of the worked year are, one by one.
-use Rattle.std.specs.Prelude.{◌≡◌, true, List, [], ◌∷◌, ℤ, pos, neg_ℤ, None}
+use Rattle.std.specs.Prelude.{◌≡◌, true, List, [], ◌∷◌, ℤ, pos, neg_ℤ, None, Ok}
 use Rattle.tariff.specs.Limits.{first_bad_figure}
 use Rattle.tariff.specs.Bills.{amounts_of, charge_between}
 use Rattle.tariff.specs.declared.bill.Amounts.{Amounts}

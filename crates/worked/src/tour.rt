@@ -1,5 +1,5 @@
-// A tour through the calls of a book: what each is granted, and each refusal that it can give. No call closes or reopens a company yet, so that
-// 9 and 10 are not met.
+// A tour through the calls of a book: what each is granted, and each refusal that it can give. It closes and reopens no company, so
+// that 9 and 10 are not met.
 mod keeper;
 mod lines;
 mod orders;
