@@ -27,7 +27,7 @@ impl<'a, J: Journal, M: Management> Keeper<'a, J, M> {
     }
 
     /// Draws while an order of the company is out, which is refused.
-    pub fn draw_again(&mut self, lines: &mut Lines<'_>, drawn: &DrawnOrder)
+    pub(super) fn draw_again(&mut self, lines: &mut Lines<'_>, drawn: &DrawnOrder)
         requires { CanCancel (state J.Journal M.Management self.old.book) drawn.now.order }
         ensures { state J.Journal M.Management self.new.book ≡ state J.Journal M.Management self.old.book }
     {

@@ -11,7 +11,7 @@ use management::rule::Management;
 
 impl<'a, J: Journal, M: Management> Keeper<'a, J, M> {
     /// Cancels the order that is out.
-    pub fn take_back(&mut self, lines: &mut Lines<'_>, drawn: DrawnOrder)
+    pub(super) fn take_back(&mut self, lines: &mut Lines<'_>, drawn: DrawnOrder)
         requires { CanCancel (state J.Journal M.Management self.old.book) drawn.order }
     {
         if let Some(_refused) = self.cancel(lines, drawn) {
@@ -20,7 +20,7 @@ impl<'a, J: Journal, M: Management> Keeper<'a, J, M> {
     }
 
     /// Takes back the order that is out and sent.
-    pub fn take_back_sent(&mut self, lines: &mut Lines<'_>, sent: SentOrder)
+    pub(super) fn take_back_sent(&mut self, lines: &mut Lines<'_>, sent: SentOrder)
         requires { CanBounce (state J.Journal M.Management self.old.book) sent.order }
     {
         if let Some(_refused) = self.bounce(lines, sent) {
@@ -29,7 +29,7 @@ impl<'a, J: Journal, M: Management> Keeper<'a, J, M> {
     }
 
     /// Sends the order that is out.
-    pub fn send_out(&mut self, lines: &mut Lines<'_>, drawn: DrawnOrder) -> Option<SentOrder>
+    pub(super) fn send_out(&mut self, lines: &mut Lines<'_>, drawn: DrawnOrder) -> Option<SentOrder>
         requires { CanCancel (state J.Journal M.Management self.old.book) drawn.order }
         ensures { IfSome result (λ sent. CanBounce (state J.Journal M.Management self.new.book) sent.order) }
     {
