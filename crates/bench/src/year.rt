@@ -1,5 +1,5 @@
 // A year of bills: a book whose companies, localities and points stand, and the rounds of its bills.
-use crate::figures::{change, enrolment, locality, municipal, tariff, terms};
+use crate::figures::{change, enrolment, locality, municipal, terms};
 use book::book::Book;
 use journal::entry::Entry;
 use journal::lent::LentJournal;
@@ -47,7 +47,7 @@ impl<'a> Year<'a> {
         let book = &mut self.book;
         let localities = self.localities.as_mut_slice();
         let points = self.points.as_mut_slice();
-        book.open(&tariff()?, 1, 0, localities, points)?;
+        book.open(&sample::tariff()?, 1, 0, localities, points)?;
         for company in 0..16 {
             book.register(company, terms())?;
         }

@@ -12,7 +12,12 @@ pub fn costs_of<M: Management>(rule: &M, terms: &Terms) -> Costs
     ensures central { result.central ≡ terms.now.figures.central }
 {
     let figures = terms.figures();
-    let traits = Traits::new(figures.points, figures.density, figures.year).unwrap();
+    let traits = Traits::new(
+        figures.points,
+        u64::from(figures.density),
+        u64::from(figures.year),
+    )
+    .unwrap();
     let price = rule.operating_price(traits);
     Costs::new(price, figures.verification, figures.central).unwrap()
 }

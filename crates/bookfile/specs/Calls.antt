@@ -13,18 +13,18 @@ use Rattle.tables.specs.declared.service.Service.{Service}
 use Rattle.tables.specs.declared.service.Service.TheVariants.{Distribution, Metering}
 use Rattle.bookfile.specs.declared.statement.Statement.{Statement}
 use Rattle.bookfile.specs.declared.statement.Statement.TheVariants.{Register, File, Enrol, Bill, Draw, Cancel, Send, Confirm, Bounce, Close, Reopen, Cost, Component, Served, Revenue, Balance, Account}
-use Rattle.bookfile.specs.Numbers.{whole_at, change_at}
+use Rattle.bookfile.specs.Numbers.{whole_at, byte_at, change_at}
 
 abbrev pub terms_of : List (Option ℤ) → TermsFigures
 terms_of zs =
     record {
       advance = change_at zs 1;
-      instalments = whole_at zs 2;
+      instalments = byte_at zs 2;
       verification = whole_at zs 3;
       central = whole_at zs 4;
       points = whole_at zs 5;
-      density = whole_at zs 6;
-      year = whole_at zs 7;
+      density = byte_at zs 6;
+      year = byte_at zs 7;
     }
 
 abbrev pub enrolment_of : List (Option ℤ) → Enrolment
@@ -34,7 +34,7 @@ abbrev pub bill_change : List (Option ℤ) → Change
 bill_change zs = record { volume = change_at zs 1; days = change_at zs 2 }
 
 abbrev pub order_of : List (Option ℤ) → Order
-order_of zs = record { book = whole_at zs 0; company = whole_at zs 1; instalment = min (whole_at zs 2) 255 }
+order_of zs = record { book = whole_at zs 0; company = whole_at zs 1; instalment = byte_at zs 2 }
 
 -- 1 is distribution, 2 metering
 abbrev pub service_of : List (Option ℤ) → Service

@@ -16,5 +16,9 @@ change_of (Some (negsuc n)) = negsuc (min n 9223372036854775807)
 abbrev pub whole_at : List (Option ℤ) → ℕ → ℕ
 whole_at zs i = whole_of (slice_index_or zs i None)
 
+-- one of 8 bits, and 255 where it is more: 255 is beyond every limit that such a figure has
+abbrev pub byte_at : List (Option ℤ) → ℕ → ℕ
+byte_at zs i = min (whole_at zs i) 255
+
 abbrev pub change_at : List (Option ℤ) → ℕ → ℤ
 change_at zs i = change_of (slice_index_or zs i None)

@@ -70,12 +70,12 @@ fn terms_of(line: &Line) -> TermsFigures
 {
     TermsFigures {
         advance: line.change(1),
-        instalments: line.whole(2),
+        instalments: line.byte(2),
         verification: line.whole(3),
         central: line.whole(4),
         points: line.whole(5),
-        density: line.whole(6),
-        year: line.whole(7),
+        density: line.byte(6),
+        year: line.byte(7),
     }
 }
 
@@ -104,7 +104,7 @@ fn order_of(line: &Line) -> Order
     Order {
         book: line.whole(0),
         company: line.whole(1),
-        instalment: line.whole(2).min(255) as u8,
+        instalment: line.byte(2),
     }
 }
 

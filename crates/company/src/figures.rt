@@ -11,16 +11,16 @@ pub struct TermsFigures {
     /// The yearly advance, in cents; where it is negative the company pays.
     pub advance: i64,
     /// The number of instalments of the advance.
-    pub instalments: u64,
+    pub instalments: u8,
     /// The yearly cost of meter verifications, in cents.
     pub verification: u64,
     /// The yearly central cost, in cents.
     pub central: u64,
     /// Points for class.
     pub points: u64,
-    pub density: u64,
+    pub density: u8,
     /// The award year.
-    pub year: u64,
+    pub year: u8,
 }
 
 impl TermsFigures {
@@ -41,7 +41,7 @@ impl TermsFigures {
     {
         first_of(&[
             unless(self.advance.unsigned_abs() <= MOST_CENTS, 1),
-            unless(among(12, self.instalments), 2),
+            unless(among(12, u64::from(self.instalments)), 2),
             unless(self.verification <= MOST_CENTS, 3),
             unless(self.central <= MOST_CENTS, 4),
         ])
@@ -53,8 +53,8 @@ impl TermsFigures {
     {
         first_of(&[
             unless(self.points <= 100_000_000, 5),
-            unless(among(3, self.density), 6),
-            unless(among(12, self.year), 7),
+            unless(among(3, u64::from(self.density)), 6),
+            unless(among(12, u64::from(self.year)), 7),
         ])
     }
 }

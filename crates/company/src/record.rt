@@ -114,7 +114,7 @@ impl Company {
         ensures answer { result ≡ act_answer self.old Draw }
         ensures after { self.new ≡ act_after self.old Draw }
     {
-        if u64::from(self.paid) >= self.terms.figures().instalments {
+        if self.paid >= self.terms.figures().instalments {
             return Err(Reason::AllPaid);
         }
         let next = self.paid + 1;

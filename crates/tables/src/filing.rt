@@ -7,18 +7,16 @@ use crate::rows::{AssetRow, LocalityRow};
 use limits::{among, first_of, unless, unless_bad};
 use units::refusal::{Reason, Refusal};
 
-// The figures of asset row 1 to 8 against their limit. Row r has the figures from 5r.
+// The figures of asset row 1 to 8 against their limit. Row r has the figures from 5r. No list is made: each bill asks this of all rows.
 fn limit_of_row(row: u8, a: &AssetRow) -> Option<u64>
     ensures { result ≡ row_fault Limits (5 * row) a.now }
 {
     let n = 5 * row as u64;
-    first_of(&[
-        unless(a.gross <= 10_000_000_000, n),
-        unless(a.net <= 10_000_000_000, n + 1),
-        unless(a.works <= 10_000_000_000, n + 2),
-        unless(a.contributions <= 10_000_000_000, n + 3),
-        unless(a.remaining <= 10_000_000_000, n + 4),
-    ])
+    unless(a.gross <= 10_000_000_000, n)
+        .or_else(|| unless(a.net <= 10_000_000_000, n + 1))
+        .or_else(|| unless(a.works <= 10_000_000_000, n + 2))
+        .or_else(|| unless(a.contributions <= 10_000_000_000, n + 3))
+        .or_else(|| unless(a.remaining <= 10_000_000_000, n + 4))
 }
 
 fn remaining_fits(a: &AssetRow) -> bool
@@ -32,11 +30,9 @@ fn odds_of_row(row: u8, a: &AssetRow) -> Option<u64>
     ensures { result ≡ row_fault Odds (5 * row) a.now }
 {
     let n = 5 * row as u64;
-    first_of(&[
-        unless(a.net <= a.gross, n + 1),
-        unless(a.contributions <= a.gross, n + 3),
-        unless(remaining_fits(a), n + 4),
-    ])
+    unless(a.net <= a.gross, n + 1)
+        .or_else(|| unless(a.contributions <= a.gross, n + 3))
+        .or_else(|| unless(remaining_fits(a), n + 4))
 }
 
 // The first fault of asset rows, by one test of a row and its number.

@@ -164,7 +164,7 @@ fn calls_keep_their_lines(rt: HostRuntime) -> Result<(), Fail> {
     }
     assert_eq!(rt;
         said.as_str(),
-        "10: register 15: -9223372036854775808 1 2 3 4 18446744073709551615 7
+        "10: register 15: -9223372036854775808 1 2 3 4 255 7
 11: file 300 by filing 0
 12: enrol 65536: 8 18446744073709551615 2
 13: file 1 by filing 1

@@ -6,7 +6,7 @@ use company::terms::Terms;
 use units::amounts::Cents;
 
 /// An advance in so many instalments, and the least of all else.
-pub fn figures(advance: i64, instalments: u64) -> TermsFigures {
+pub fn figures(advance: i64, instalments: u8) -> TermsFigures {
     TermsFigures {
         advance,
         instalments,
@@ -21,7 +21,7 @@ pub fn figures(advance: i64, instalments: u64) -> TermsFigures {
 fn compare_line(tally: &mut Tally<'_>, line: &str) -> anyhow::Result<()> {
     let mut numbers = Numbers::of(line);
     let (advance, count) = (numbers.take()?, numbers.take::<u8>()?);
-    let terms = Terms::try_from(figures(advance, u64::from(count)))?;
+    let terms = Terms::try_from(figures(advance, count))?;
     for j in 1..=count {
         tally.compare("instalment", terms.instalment(j), Cents(numbers.take()?))?;
     }

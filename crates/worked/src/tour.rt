@@ -44,7 +44,7 @@ pub fn run(rt: &HostRuntime) -> anyhow::Result<()> {
 }
 
 // The company of the worked year.
-fn terms(instalments: u64) -> TermsFigures {
+fn terms(instalments: u8) -> TermsFigures {
     TermsFigures {
         central: 1_000,
         ..figures(100_000, instalments)
