@@ -123,6 +123,23 @@ fn phase_words(phase: Phase) -> &'static str {
     }
 }
 
+/// The companies that are closed.
+pub fn write_closed<W: fmt::Write, J: Journal, M: Management>(
+    out: &mut W,
+    book: &Book<J, M>,
+) -> fmt::Result {
+    let mut list = [0; 16];
+    let count = book.closed_companies(&mut list).unwrap_or(0);
+    write!(out, "\nclosed companies:")?;
+    if count == 0 {
+        return writeln!(out, " none");
+    }
+    for company in list.iter().take(count) {
+        write!(out, " {company}")?;
+    }
+    writeln!(out)
+}
+
 /// The equalisation account.
 pub fn write_account<W: fmt::Write, J: Journal, M: Management>(
     out: &mut W,

@@ -9,7 +9,7 @@ use management::area_wide::AreaWide;
 use management::municipal::Municipal;
 use management::rule::Management;
 use report::answer::write_answer;
-use report::year::{write_account, write_company, write_locality};
+use report::year::{write_account, write_closed, write_company, write_locality};
 use std::alloc::Global;
 use std::fmt;
 use tables::lookup::record_at;
@@ -85,7 +85,7 @@ fn run_calls<J: Journal, M: Management>(
     Ok(out)
 }
 
-// What the year comes to: every locality that stands, every company that is registered, and the account.
+// What the year comes to: every locality that stands, every company that is registered, those that are closed, and the account.
 fn write_year<W: fmt::Write, J: Journal, M: Management>(
     out: &mut W,
     tariff: &Tariff,
@@ -101,5 +101,6 @@ fn write_year<W: fmt::Write, J: Journal, M: Management>(
     for company in 0..16 {
         write_company(out, book, localities, points, company)?;
     }
+    write_closed(out, book)?;
     write_account(out, book, points)
 }

@@ -71,6 +71,8 @@ company 15, open: 0.000 points served in regime, 0.000 in start-up
   less balances                                     0 cents
   balance due                                       0 cents
 
+closed companies: none
+
 equalisation account: 0 cents
 ",
     ),
@@ -148,6 +150,8 @@ company 0, open: 0.000 points served in regime, 0.000 in start-up
   less balances                                     0 cents
   balance due                                    -480 cents
 
+closed companies: none
+
 equalisation account: 5 cents
 ",
     ),
@@ -213,6 +217,8 @@ company 15, open: 0.000 points served in regime, 1.000 in start-up
   less advances                                     0 cents
   less balances                                     0 cents
   balance due                           1799999900000 cents
+
+closed companies: none
 
 equalisation account: 0 cents
 ",
@@ -285,6 +291,8 @@ company 0, open with an order sent: 0.000 points served in regime, 0.000 in star
   less balances                                     0 cents
   balance due                                       0 cents
 
+closed companies: none
+
 equalisation account: 0 cents
 ",
     ),
@@ -308,6 +316,8 @@ balance due to company 0: refusal 5 (layer 2, tables) at place 0: nothing stands
 account: 0 cents
 order for company 0: refusal 5 (layer 2, tables) at place 0: nothing stands at a place that the call needs
 order of book 1, company 16, instalment 1: refusal 4 (layer 2, tables) at place 16: the place lies past its table, or a table or list has a wrong length
+
+closed companies: none
 
 equalisation account: 0 cents
 ",

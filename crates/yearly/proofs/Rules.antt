@@ -104,6 +104,9 @@ module _ (y : Fixed) (h : History) (m : Moving) (T : Tied y h m) where
       let one = one_out c.phase in
       record {
         advances = held.advances ∙ (λ z. instalments (same z) (sym held.confirmed z));
+        within =
+            let instalments = ap (λ (g : TermsFigures). g.instalments) same in
+            omega (arith, held.confirmed, held.within, instalments);
         out = omega (arith, held.out);
         one = omega (arith, held.out, one);
         closed = λ closed.

@@ -1,6 +1,7 @@
 -- A company on record, and what the history and the journal tell of it.
-use Rattle.std.proofs.Common.{◌≡◌, ℕ, ◌+◌, ◌-◌, Bool, true, false, cond, ltb, List, [], ◌∷◌, ◌++◌, map, ℤ, pos, ◌+ℤ◌, ◌-ℤ◌, Some, None, Ok, Err, Option, refl, sym, ap, subst, ◌∙◌, arith}
+use Rattle.std.proofs.Common.{◌≡◌, ℕ, ◌+◌, ◌-◌, ◌≤◌, Bool, true, false, cond, ltb, List, [], ◌∷◌, ◌++◌, map, ℤ, pos, ◌+ℤ◌, ◌-ℤ◌, Some, None, Ok, Err, Option, refl, sym, ap, subst, ◌∙◌, arith}
 use Rattle.std.specs.List.{range_with_len}
+use Rattle.std.proofs.lemmas.Bool.{ltb-true}
 use Rattle.std.proofs.lemmas.List.{append-nil}
 use Rattle.std.proofs.lemmas.List.FromFn.{map-range_with_len_more}
 use borrow.Author.Differences.{ints}
@@ -36,12 +37,12 @@ is_closed (Drawn k) = false
 is_closed (Sent k) = false
 is_closed Closed = true
 
--- an order that is out is for the instalment after those that are paid
-abbrev pub Next : Phase → (paid : ℕ) → Type 0
-Next Free paid = Unit {0}
-Next (Drawn k) paid = k ≡ paid + 1
-Next (Sent k) paid = k ≡ paid + 1
-Next Closed paid = Unit {0}
+-- an order that is out, of n instalments, is for the one after those that are paid
+abbrev pub Next : Phase → (paid n : ℕ) → Type 0
+Next Free paid n = Unit {0}
+Next (Drawn k) paid n = (k ≡ paid + 1) × (k ≤ n)
+Next (Sent k) paid n = (k ≡ paid + 1) × (k ≤ n)
+Next Closed paid n = Unit {0}
 
 pub record HeldBy (c : Company) (t : Story) : Type 0 where
   pub terms : t.terms ≡ Some c.terms.figures
@@ -49,7 +50,8 @@ pub record HeldBy (c : Company) (t : Story) : Type 0 where
   pub paid : t.paid ≡ paid_out (Some c)
   pub confirmed : t.confirmed ≡ c.paid
   pub out : t.drawn ≡ outs c.phase + t.taken_back
-  pub next : Next c.phase c.paid
+  pub within : c.paid ≤ c.terms.figures.instalments
+  pub next : Next c.phase c.paid c.terms.figures.instalments
   pub closed : t.closed ≡ is_closed c.phase
 
 -- nothing is told of a company that did not register
@@ -67,12 +69,19 @@ Held None t = Untold t
 Held (Some c) t = HeldBy c t
 
 -- ---- What a granted event says of the phase
-drawn_while : (some : Bool) (paid k : ℕ) → cond some (Ok (paid + 1)) (Err AllPaid) ≡ Ok k → k ≡ paid + 1
-drawn_while true paid k granted = cc
+drawn_while : (some : Bool) (paid k : ℕ) → cond some (Ok (paid + 1)) (Err AllPaid) ≡ Ok k → (some ≡ true) × (k ≡ paid + 1)
+drawn_while true paid k granted = (refl, cc)
 drawn_while false paid k granted = cc
 
-draw_free : (p : Phase) (paid n k : ℕ) → draw_answer p paid n ≡ Ok k → (p ≡ Free) × (k ≡ paid + 1)
-draw_free Free paid n k granted = (refl, drawn_while (ltb paid n) paid k granted)
+next_drawn : (paid n k : ℕ) → (ltb paid n ≡ true) × (k ≡ paid + 1) → (k ≡ paid + 1) × (k ≤ n)
+next_drawn paid n k d =
+    let less = ltb-true paid n d.0 in
+    let next = d.1 in
+    (next, omega arith)
+
+draw_free : (p : Phase) (paid n k : ℕ) → draw_answer p paid n ≡ Ok k → (p ≡ Free) × (k ≡ paid + 1) × (k ≤ n)
+draw_free Free paid n k granted =
+    let next = next_drawn paid n k (drawn_while (ltb paid n) paid k granted) in (refl, next.0, next.1)
 draw_free (Drawn j) paid n k granted = cc
 draw_free (Sent j) paid n k granted = cc
 draw_free Closed paid n k granted = cc
@@ -99,14 +108,15 @@ registered_held terms f t made u =
       paid = omega (arith, ints, none, u.paid);
       confirmed = u.confirmed;
       out = omega (arith, u.drawn, u.taken_back);
+      within = omega arith;
       next = tt;
       closed = u.closed;
     }
 
 -- ---- Events
 module _ (c : Company) (t : Story) (held : HeldBy c t) where
-  next_at : (p : Phase) → c.phase ≡ p → Next p c.paid
-  next_at p at = subst (λ (q : Phase). Next q c.paid) at held.next
+  next_at : (p : Phase) → c.phase ≡ p → Next p c.paid c.terms.figures.instalments
+  next_at p at = subst (λ (q : Phase). Next q c.paid c.terms.figures.instalments) at held.next
 
   pub draw_held : (k : ℕ) → act_answer c Draw ≡ Ok k → HeldBy (moved c Draw (Ok k)) (record t { drawn = 1 + t.drawn })
   draw_held k granted =
@@ -118,7 +128,8 @@ module _ (c : Company) (t : Story) (held : HeldBy c t) where
         paid = held.paid;
         confirmed = held.confirmed;
         out = omega (arith, none, held.out);
-        next = free.1;
+        within = held.within;
+        next = (free.1, free.2);
         closed = held.closed ∙ ap is_closed free.0;
       }
 
@@ -132,6 +143,7 @@ module _ (c : Company) (t : Story) (held : HeldBy c t) where
         paid = held.paid;
         confirmed = held.confirmed;
         out = omega (arith, one, held.out);
+        within = held.within;
         next = tt;
         closed = held.closed ∙ ap is_closed out;
       }
@@ -146,6 +158,7 @@ module _ (c : Company) (t : Story) (held : HeldBy c t) where
         paid = held.paid;
         confirmed = held.confirmed;
         out = omega (arith, one, held.out);
+        within = held.within;
         next = next_at (Drawn k) out;
         closed = held.closed ∙ ap is_closed out;
       }
@@ -160,12 +173,13 @@ module _ (c : Company) (t : Story) (held : HeldBy c t) where
         paid = held.paid;
         confirmed = held.confirmed;
         out = omega (arith, one, held.out);
+        within = held.within;
         next = tt;
         closed = held.closed ∙ ap is_closed out;
       }
 
   -- what is confirmed is the next instalment
-  pub confirm_next : (j k : ℕ) → act_answer c (Confirm j) ≡ Ok k → k ≡ c.paid + 1
+  pub confirm_next : (j k : ℕ) → act_answer c (Confirm j) ≡ Ok k → (k ≡ c.paid + 1) × (k ≤ c.terms.figures.instalments)
   confirm_next j k granted = next_at (Sent k) (order_laws.confirmed c j k granted).1
 
   abbrev pub amount : ℕ → ℤ
@@ -173,7 +187,7 @@ module _ (c : Company) (t : Story) (held : HeldBy c t) where
 
   pub paid_more : (j k : ℕ) → act_answer c (Confirm j) ≡ Ok k → paid_out (Some (moved c (Confirm j) (Ok k))) ≡ paid_out (Some c) +ℤ amount k
   paid_more j k granted =
-      let next = confirm_next j k granted in
+      let next = (confirm_next j k granted).0 in
       let before : k - 1 ≡ c.paid = omega arith in
       let old = ap (paid_up_to c.terms.figures.advance c.terms.figures.instalments) before in
       omega (arith, ints)
@@ -182,7 +196,8 @@ module _ (c : Company) (t : Story) (held : HeldBy c t) where
   confirm_held j k granted =
       let out = (order_laws.confirmed c j k granted).1 in
       let one = ap outs out in
-      let next = confirm_next j k granted in
+      let confirmed = confirm_next j k granted in
+      let next = confirmed.0 in
       let more = paid_more j k granted in
       let advanced : ℕ → Advanced = λ i. (i, record { 0 = amount i }) in
       record {
@@ -194,6 +209,7 @@ module _ (c : Company) (t : Story) (held : HeldBy c t) where
         paid = omega (arith, ints, more, held.paid);
         confirmed = omega (arith, next, held.confirmed);
         out = omega (arith, one, held.out);
+        within = confirmed.1;
         next = tt;
         closed = held.closed ∙ ap is_closed out;
       }
@@ -209,6 +225,7 @@ module _ (c : Company) (t : Story) (held : HeldBy c t) where
         advances = append-nil t.advances ∙ held.advances;
         paid = omega (arith, ints, held.paid);
         out = omega (arith, none, held.out);
+        within = held.within;
         next = tt;
         closed = refl;
       }
@@ -223,6 +240,7 @@ module _ (c : Company) (t : Story) (held : HeldBy c t) where
         paid = held.paid;
         confirmed = held.confirmed;
         out = omega (arith, none, held.out);
+        within = held.within;
         next = tt;
         closed = refl;
       }

@@ -85,6 +85,8 @@ instalments f k = map (λ j. (j, record { 0 = instalment f.advance f.instalments
 pub record AdvanceRule (y : Year) (company : ℕ) (f : TermsFigures) : Type 0 where
   -- its advances are its instalments 1, 2, .., k in order, where k is how often it confirmed one
   pub advances : advances_of y.journal company ≡ instalments f (confirmed y.history company)
+  -- of no more instalments than it registered
+  pub within : confirmed y.history company ≤ f.instalments
   -- no more than one order is out, and none while it is closed
   pub out : taken_back y.history company ≤ drawn y.history company
   pub one : drawn y.history company - taken_back y.history company ≤ 1
