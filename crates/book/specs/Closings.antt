@@ -1,5 +1,5 @@
 -- What closing a company's year and reopening it meet, and what they leave.
-use Rattle.std.specs.Prelude.{ℕ, List, ℤ, pos, ◌-ℤ◌, Ok, Err, Result}
+use Rattle.std.specs.Prelude.{ℕ, List, ℤ, pos, Ok, Err, Result}
 use Rattle.units.specs.declared.amounts.Cents.{Cents}
 use Rattle.units.specs.declared.refusal.Reason.TheVariants.{PastTable}
 use Rattle.units.specs.declared.refusal.Refusal.{Refusal}

@@ -88,8 +88,8 @@ fn paid_out(slot: &Option<Company>) -> i128
     ensures value { result ≡ paid_out slot.now }
     ensures small { (result ≤ℤ pos 18446744073709551616) × (neg_ℤ (pos 18446744073709551616) ≤ℤ result) }
 {
-    slot.as_ref().map_or(
-        0,
-        |company| company.advances().0 + i128::from(company.balances),
-    )
+    match slot {
+        Some(company) => company.advances().0 + i128::from(company.balances),
+        None => 0,
+    }
 }

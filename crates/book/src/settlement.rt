@@ -22,9 +22,8 @@ fn settlement(
     ensures value { result ≡ asked.settlement tariff.now.figures costs.operating.0 tables.entry.localities.now tables.entry.points.now place company.now }
     ensures small { (result ≤ℤ pos 20000000000000000) × (neg_ℤ (pos 20000000000000000) ≤ℤ result) }
 {
-    let revenue = tables.revenue(tariff, costs, place).total().0;
-    let billed = tables.sums(tariff, place).billed;
-    revenue - i128::from(billed) - company.advances().0
+    let year = tables.outcome(tariff, costs, place);
+    year.revenue.total().0 - i128::from(year.billed) - company.advances().0
 }
 
 /// Settles a company: its balances come to its settlement. Answers the balance that was due.

@@ -4,7 +4,7 @@ ghost use Rattle.std.specs.Prelude.{◌≤◌, length};
 use tables::rows::{LocalityRow, PointRow};
 
 pub mod makes;
-pub mod revenue;
+pub mod outcome;
 pub mod sums;
 pub mod ug1;
 

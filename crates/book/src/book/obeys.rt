@@ -1,8 +1,8 @@
 // Any call, by its plain numbers.
 ghost use Rattle.std.specs.Prelude.{◌≡◌};
 ghost use Rattle.book.specs.States.{state};
-ghost use Rattle.book.specs.declared.answer.Granted.TheVariants.{Sent};
-ghost use Rattle.book.specs.Companies.{number_of, drawing, sending, moved};
+ghost use Rattle.book.specs.declared.answer.Granted.TheVariants.{Cancelled, Sent, Paid, Bounced};
+ghost use Rattle.book.specs.Companies.{number_of, drawing, cancelling, sending, bouncing, confirming, moved, confirmed_by, amount_paid};
 ghost use Rattle.book.specs.Calls.{grants, drawn_answer, answer_to, answer_asked, after_call};
 
 use super::Book;
@@ -78,12 +78,36 @@ impl<J: Journal, M: Management> Book<J, M> {
         Ok(Granted::Drawn(order))
     }
 
+    fn cancelled(&mut self, order: Order) -> Result<Granted, Refusal>
+        ensures answer { result ≡ grants (cancelling (state J.Journal M.Management self.old) order) (λ d. Cancelled) }
+        ensures after { state J.Journal M.Management self.new ≡ moved (state J.Journal M.Management self.old) order.company (cancelling (state J.Journal M.Management self.old) order) }
+    {
+        self.cancel(DrawnOrder { order }).map_err(undrawn)?;
+        Ok(Granted::Cancelled)
+    }
+
     fn sent(&mut self, order: Order) -> Result<Granted, Refusal>
         ensures answer { result ≡ grants (sending (state J.Journal M.Management self.old) order) (λ d. Sent) }
         ensures after { state J.Journal M.Management self.new ≡ moved (state J.Journal M.Management self.old) order.company (sending (state J.Journal M.Management self.old) order) }
     {
         let SentOrder { order: _ } = self.send(DrawnOrder { order }).map_err(undrawn)?;
         Ok(Granted::Sent)
+    }
+
+    fn paid(&mut self, order: Order) -> Result<Granted, Refusal>
+        ensures answer { result ≡ grants (confirming (state J.Journal M.Management self.old) order) (λ d. Paid (amount_paid d)) }
+        ensures after { state J.Journal M.Management self.new ≡ confirmed_by (state J.Journal M.Management self.old) order.company (confirming (state J.Journal M.Management self.old) order) }
+    {
+        let amount = self.confirm(SentOrder { order }).map_err(unsent)?;
+        Ok(Granted::Paid(amount))
+    }
+
+    fn bounced(&mut self, order: Order) -> Result<Granted, Refusal>
+        ensures answer { result ≡ grants (bouncing (state J.Journal M.Management self.old) order) (λ d. Bounced) }
+        ensures after { state J.Journal M.Management self.new ≡ moved (state J.Journal M.Management self.old) order.company (bouncing (state J.Journal M.Management self.old) order) }
+    {
+        self.bounce(SentOrder { order }).map_err(unsent)?;
+        Ok(Granted::Bounced)
     }
 
     /// Performs a call by its plain numbers: any order whatever may be handed in. A filing's row stands in the list of filings; past its end a
@@ -113,19 +137,10 @@ impl<J: Journal, M: Management> Book<J, M> {
                 .bill(localities, points, point, change)
                 .map(|bill| Granted::Billed(bill)),
             Call::Draw { company } => self.drawn(company),
-            Call::Cancel(order) => self
-                .cancel(DrawnOrder { order })
-                .map(|_| Granted::Cancelled)
-                .map_err(undrawn),
+            Call::Cancel(order) => self.cancelled(order),
             Call::Send(order) => self.sent(order),
-            Call::Confirm(order) => self
-                .confirm(SentOrder { order })
-                .map(|cents| Granted::Paid(cents))
-                .map_err(unsent),
-            Call::Bounce(order) => self
-                .bounce(SentOrder { order })
-                .map(|_| Granted::Bounced)
-                .map_err(unsent),
+            Call::Confirm(order) => self.paid(order),
+            Call::Bounce(order) => self.bounced(order),
             Call::Close { company } => self
                 .close(localities, points, company)
                 .map(|cents| Granted::Closed(cents)),

@@ -97,7 +97,7 @@ impl<J: Journal, M: Management> Book<J, M> {
         let opened = self.opened.as_ref().ok_or(Reason::BookNotOpen.at(0))?;
         let (tables, found) = opened.asked(localities, points, company)?;
         let costs = costs_of(&self.rule, &found.terms);
-        Ok(tables.revenue(&opened.tariff, costs, company))
+        Ok(tables.outcome(&opened.tariff, costs, company).revenue)
     }
 
     /// The balance that is due to a company: its settlement, less the balances booked before.

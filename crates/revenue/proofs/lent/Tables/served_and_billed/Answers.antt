@@ -3,10 +3,10 @@ use Rattle.std.proofs.lemmas.Bool.{and_from}
 use Rattle.tariff.proofs.Lawful.{within}
 use Rattle.tables.specs.declared.state.State.TheVariants.{Regime, StartUp}
 use Rattle.revenue.proofs.Shares.{told}
-use Rattle.revenue.proofs.lent.Tables.served.Goals as goal
+use Rattle.revenue.proofs.lent.Tables.served_and_billed.Goals as goal
 
-pub unwrap-requires : goal.unwrap-requires
-unwrap-requires c =
+pub unwrap-served-requires : goal.unwrap-served-requires
+unwrap-served-requires c =
     let t = c.args.tariff.now.figures in
     let all = told t (within t c.args.tariff.now.lawful) c.args.self.localities.now c.args.self.points.now c.args.company in
     let sums = c.sums-sums.ensures in
