@@ -2,6 +2,9 @@
 use calls::call::Order;
 use units::refusal::Refusal;
 
+mod drawn;
+mod sent;
+
 /// An order that is drawn: it can be cancelled or sent.
 pub struct DrawnOrder {
     pub(crate) order: Order,
@@ -16,26 +19,4 @@ pub struct SentOrder {
 pub struct Returned<O> {
     pub order: O,
     pub refusal: Refusal,
-}
-
-impl DrawnOrder {
-    ghost use Rattle.std.specs.Prelude.{◌≡◌};
-
-    /// What the order says.
-    pub fn order(&self) -> Order
-        ensures { result ≡ self.now.order }
-    {
-        self.order
-    }
-}
-
-impl SentOrder {
-    ghost use Rattle.std.specs.Prelude.{◌≡◌};
-
-    /// What the order says.
-    pub fn order(&self) -> Order
-        ensures { result ≡ self.now.order }
-    {
-        self.order
-    }
 }
