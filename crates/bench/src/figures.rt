@@ -1,8 +1,8 @@
-// The figures of the benchmark: those of the worked year, and formulas of the place and the round.
+// The figures of the benchmark: those of the worked year, and formulas of the company, the place and the round.
 use calls::enrolling::Enrolment;
 use company::figures::TermsFigures;
 use management::municipal::Municipal;
-use tables::rows::LocalityRow;
+use tables::rows::{AssetRow, LocalityRow};
 use tariff::supply::Change;
 use units::amounts::PointPrice;
 use units::refusal::Refusal;
@@ -15,21 +15,32 @@ pub fn municipal() -> Result<Municipal, Refusal> {
     Municipal::try_from(prices.map(PointPrice))
 }
 
-pub fn terms() -> TermsFigures {
+/// The sixteen companies are of each size and density; six of them pay their advance.
+pub fn terms(company: u64) -> TermsFigures {
+    let place = company % 16;
     TermsFigures {
-        points: 4096,
+        advance: 100_000 - 10_001 * place as i64,
+        verification: 500 * place,
+        points: 4096 + 30_000 * place,
+        density: 1 + (place % 3) as u8,
         ..sample::terms()
     }
 }
 
-/// The localities lie with the sixteen companies in turn, and in the eight areas in turn.
+/// The localities lie with the sixteen companies in turn, and in the eight areas in turn; of a company's, each other one is in start-up.
 pub fn locality(place: u64) -> LocalityRow {
-    LocalityRow {
+    let mut row = LocalityRow {
         company: place % 16,
+        state: 1 + place / 16 % 2,
         area: 1 + place % 8,
         expected: 256,
         ..sample::locality()
-    }
+    };
+    row.rows[2] = AssetRow {
+        gross: 1_000_000 + 1001 * (place % 256),
+        ..row.rows[2]
+    };
+    row
 }
 
 /// The points lie in the 256 localities in turn.

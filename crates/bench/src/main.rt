@@ -1,15 +1,20 @@
-// A benchmark of billing: so many points, each billed in so many rounds, over a journal of 1,048,576 entries. It prints what the bills come to, and on the
-// standard error how long they took.
+// A benchmark of a whole year: so many points, each billed in so many rounds, over a journal of 1,048,576 entries. It prints what the year comes to, and on the
+// standard error how long it took.
 #![tactic(auto)]
 
+mod digest;
 mod figures;
+mod plan;
 mod year;
 
 use anyhow::anyhow;
+use book::answer::Granted;
+use calls::call::Call;
 use journal::entry::Entry;
+use plan::Size;
 use std::env;
 use std::time::{Duration, Instant};
-use year::{Size, Year};
+use year::Year;
 
 const ENTRIES: usize = 1_048_576;
 
@@ -21,23 +26,12 @@ fn run(rt: &HostRuntime) -> anyhow::Result<()> {
     let heap = rt.alloc();
     let size = size(rt)?;
     let mut entries = vec![in heap; Entry::default(); ENTRIES]?;
-    let mut year = Year::new(heap, entries.as_mut_slice())?;
-    year.prepare(size.points)?;
+    let mut year = Year::new(heap, entries.as_mut_slice(), size)?;
     let start = Instant::now(rt)?;
-    let billed = year.bill_rounds(size)?;
+    year.run()?;
     let took = start.elapsed(rt)?;
-    println!(rt;
-        "bills: {}, tariff {} cents, UG1 {} cents",
-        billed.bills, billed.tariff, billed.ug1
-    )?;
-    println!(rt; "account: {} cents", year.account()?)?;
-    println!(rt;
-        "journal: {} entries of {}, digest {}",
-        year.entries(),
-        ENTRIES,
-        year.digest()
-    )?;
-    write_time(rt, billed.bills, took)
+    write_outcome(rt, &year)?;
+    write_time(rt, year.calls().len(), took)
 }
 
 // The size that the two arguments give.
@@ -55,11 +49,51 @@ fn size(rt: &HostRuntime) -> anyhow::Result<Size> {
     }
 }
 
-fn write_time(rt: &HostRuntime, bills: u64, took: Duration) -> anyhow::Result<()> {
+fn write_outcome(rt: &HostRuntime, year: &Year<'_>) -> anyhow::Result<()> {
+    println!(rt;
+        "granted: {} of {} calls",
+        year.granted(),
+        year.calls().len()
+    )?;
+    let billed = year.billed();
+    println!(rt;
+        "bills: {}, tariff {} cents, UG1 {} cents, digest {}",
+        billed.bills, billed.tariff, billed.ug1, billed.digest.0
+    )?;
+    write_amounts(rt, year)?;
+    println!(rt;
+        "journal: {} entries of {}, digest {}",
+        year.entries(),
+        ENTRIES,
+        year.digest().0
+    )?;
+    Ok(())
+}
+
+// What confirmings and closings booked, and what the account came to.
+fn write_amounts(rt: &HostRuntime, year: &Year<'_>) -> anyhow::Result<()> {
+    for (call, answer) in year.calls().iter().zip(year.answers()) {
+        match (*call, *answer) {
+            (Call::Confirm(order), Ok(Granted::Paid(cents))) => {
+                println!(rt; "company {}: advance {} cents", order.company, cents)?;
+            }
+            (Call::Close { company }, Ok(Granted::Closed(cents))) => {
+                println!(rt; "company {}: balance {} cents", company, cents)?;
+            }
+            (Call::Ask(_), Ok(Granted::Account(cents))) => {
+                println!(rt; "account: {} cents", cents)?;
+            }
+            _ => {}
+        }
+    }
+    Ok(())
+}
+
+fn write_time(rt: &HostRuntime, calls: usize, took: Duration) -> anyhow::Result<()> {
     let micros = took.as_micros().max(1);
-    let rate = u128::from(bills) * 1_000_000 / micros;
+    let rate = calls as u128 * 1_000_000 / micros;
     eprintln!(rt;
-        "billing: {}.{:06} seconds, {rate} bills a second",
+        "year: {}.{:06} seconds, {rate} calls a second",
         micros / 1_000_000,
         micros % 1_000_000
     )?;

@@ -1,84 +1,103 @@
-// A year of bills: a book whose companies, localities and points stand, and the rounds of its bills.
-use crate::figures::{change, enrolment, locality, municipal, terms};
+// A year of a book that is run in one call, and what it came to.
+use crate::digest::Digest;
+use crate::figures::municipal;
+use crate::plan::{BOOK, Size, calls, filings};
+use book::answer::Granted;
 use book::book::Book;
+use calls::call::Call;
 use journal::entry::Entry;
 use journal::lent::LentJournal;
 use management::municipal::Municipal;
 use std::alloc::Global;
-use tables::rows::{LocalityRow, MOST_LOCALITIES, MOST_POINTS, PointRow, Row};
-use units::amounts::Cents;
-use units::refusal::Refusal;
+use tables::rows::{LocalityRow, MOST_LOCALITIES, MOST_POINTS, PointRow};
+use tariff::table::Tariff;
+use units::refusal::{Reason, Refusal};
+use yearly::run::run_year;
 
-/// How many points are billed, and in how many rounds.
-#[derive(Clone, Copy, Debug)]
-pub struct Size {
-    pub points: u64,
-    pub rounds: u64,
-}
-
-/// A book with the tables that are lent to it, as long as they may be.
+/// A book, and all that its year is lent. Each list is written before the year is run, so that the run is first to touch no memory.
 #[derive(Drop)]
 pub struct Year<'a> {
+    tariff: Tariff,
     book: Book<LentJournal<'a>, Municipal>,
     localities: Vec<LocalityRow>,
     points: Vec<PointRow>,
+    filings: Vec<LocalityRow>,
+    calls: Vec<Call>,
+    answers: Vec<Result<Granted, Refusal>>,
 }
 
-/// How many bills were granted, and what they charged together.
+/// How many bills were granted, what they charged together, and a digest of all their figures.
 #[derive(Clone, Copy, Debug, Default)]
 pub struct Billed {
     pub bills: u64,
     pub tariff: i128,
     pub ug1: i128,
+    pub digest: Digest,
 }
 
 impl<'a> Year<'a> {
-    /// A year whose book is not open yet.
-    pub fn new(heap: Global, entries: &'a mut [Entry]) -> anyhow::Result<Year<'a>> {
+    /// A year whose book is not open yet. Its tables hold rows that opening has to blank.
+    pub fn new(heap: Global, entries: &'a mut [Entry], size: Size) -> anyhow::Result<Year<'a>> {
+        let calls = calls(heap, size)?;
+        let unanswered = Err(Reason::BookNotOpen.at(0));
+        let answers = vec![in heap; unanswered; calls.len()]?;
+        let used = PointRow {
+            class: 1,
+            ..PointRow::default()
+        };
         Ok(Year {
+            tariff: sample::tariff()?,
             book: Book::new(LentJournal::new(entries), municipal()?),
-            localities: vec![in heap; LocalityRow::blank(); MOST_LOCALITIES]?,
-            points: vec![in heap; PointRow::blank(); MOST_POINTS]?,
+            localities: vec![in heap; sample::locality(); MOST_LOCALITIES]?,
+            points: vec![in heap; used; MOST_POINTS]?,
+            filings: filings(heap)?,
+            calls,
+            answers,
         })
     }
 
-    /// Opens the book, registers sixteen companies, files 256 localities and enrols so many points.
-    pub fn prepare(&mut self, count: u64) -> Result<(), Refusal> {
-        let book = &mut self.book;
-        let localities = self.localities.as_mut_slice();
-        let points = self.points.as_mut_slice();
-        book.open(&sample::tariff()?, 1, 0, localities, points)?;
-        for company in 0..16 {
-            book.register(company, terms())?;
-        }
-        for place in 0..256 {
-            book.file(localities, place, locality(place))?;
-        }
-        for point in 0..count {
-            book.enrol(localities, points, point, enrolment(point))?;
-        }
-        Ok(())
+    /// The whole year.
+    pub fn run(&mut self) -> Result<(), Refusal> {
+        run_year(
+            &mut self.book,
+            &self.tariff,
+            BOOK,
+            0,
+            self.localities.as_mut_slice(),
+            self.points.as_mut_slice(),
+            self.filings.as_slice(),
+            self.calls.as_slice(),
+            self.answers.as_mut_slice(),
+        )
     }
 
-    /// Bills each point once a round.
-    pub fn bill_rounds(&mut self, size: Size) -> Result<Billed, Refusal> {
-        let book = &mut self.book;
-        let localities = self.localities.as_slice();
-        let points = self.points.as_mut_slice();
+    pub fn calls(&self) -> &[Call] {
+        self.calls.as_slice()
+    }
+
+    /// The answers, each at its call's place.
+    pub fn answers(&self) -> &[Result<Granted, Refusal>] {
+        self.answers.as_slice()
+    }
+
+    pub fn granted(&self) -> usize {
+        self.answers()
+            .iter()
+            .filter(|answer| answer.is_ok())
+            .count()
+    }
+
+    pub fn billed(&self) -> Billed {
         let mut billed = Billed::default();
-        for round in 0..size.rounds {
-            for point in 0..size.points {
-                let bill = book.bill(localities, points, point, change(point, round))?;
+        for answer in self.answers() {
+            if let Ok(Granted::Billed(bill)) = answer {
                 billed.bills = billed.bills.wrapping_add(1);
                 billed.tariff = billed.tariff.wrapping_add(bill.charge.tariff.0);
                 billed.ug1 = billed.ug1.wrapping_add(bill.charge.ug1.0);
+                billed.digest.add_bill(bill);
             }
         }
-        Ok(billed)
-    }
-
-    pub fn account(&self) -> Result<Cents, Refusal> {
-        self.book.account(self.points.as_slice())
+        billed
     }
 
     pub fn entries(&self) -> usize {
@@ -86,21 +105,11 @@ impl<'a> Year<'a> {
     }
 
     /// One number of all entries in their order.
-    pub fn digest(&self) -> i128 {
-        let mut digest: i128 = 0;
+    pub fn digest(&self) -> Digest {
+        let mut digest = Digest::default();
         for place in 0..self.entries() {
             if let Some(entry) = self.book.entry(place) {
-                for figure in [
-                    i128::from(entry.company),
-                    i128::from(entry.place),
-                    i128::from(entry.volume),
-                    i128::from(entry.days),
-                    entry.amount.0,
-                    entry.ug1.0,
-                    entry.other.0,
-                ] {
-                    digest = digest.wrapping_mul(31).wrapping_add(figure);
-                }
+                digest.add_entry(&entry);
             }
         }
         digest
