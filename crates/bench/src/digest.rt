@@ -2,7 +2,7 @@
 use journal::entry::Entry;
 use tariff::bill::{Amounts, Bill, Charge};
 
-#[derive(Clone, Copy, Debug, Default)]
+#[derive(Clone, Copy, Default)]
 pub struct Digest(pub i128);
 
 impl Digest {

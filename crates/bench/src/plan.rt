@@ -15,7 +15,7 @@ pub const BOOK: u64 = 1;
 const _: () = prove!(size_of::<Call>() <= 64);
 
 /// How many points are billed, and in how many rounds.
-#[derive(Clone, Copy, Debug)]
+#[derive(Clone, Copy)]
 pub struct Size {
     pub points: u64,
     pub rounds: u64,

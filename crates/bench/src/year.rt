@@ -27,7 +27,7 @@ pub struct Year<'a> {
 }
 
 /// How many bills were granted, what they charged together, and a digest of all their figures.
-#[derive(Clone, Copy, Debug, Default)]
+#[derive(Clone, Copy, Default)]
 pub struct Billed {
     pub bills: u64,
     pub tariff: i128,
