@@ -11,9 +11,6 @@ const LOCALITIES: u64 = 256;
 /// The number of the book, which its orders carry.
 pub const BOOK: u64 = 1;
 
-// A year has many calls.
-const _: () = prove!(size_of::<Call>() <= 64);
-
 /// How many points are billed, and in how many rounds.
 #[derive(Clone, Copy)]
 pub struct Size {

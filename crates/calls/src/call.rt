@@ -40,6 +40,9 @@ pub enum Call {
     Ask(Question),
 }
 
+// A year has many calls, and a filing's row is no part of one.
+const _: () = prove!(size_of::<Call>() <= 64);
+
 /// A question: it alters nothing.
 #[derive(Clone, Copy, Debug, PartialEq, Eq)]
 pub enum Question {

@@ -1,3 +1,4 @@
 pub mod Holding
 pub mod Reading
 pub mod Nearing
+pub mod Faultless

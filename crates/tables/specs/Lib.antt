@@ -1,5 +1,6 @@
 pub mod States
 pub mod Filings
+pub mod Standing
 pub mod PointRows
 pub mod Records
 pub mod Costs

@@ -1,13 +1,13 @@
 // What filed figures of a locality meet.
 ghost use Rattle.std.specs.Prelude.{◌≡◌, ℕ, ◌*◌, ◌<◌, ◌&&◌, nat_le};
 ghost use Rattle.limits.specs.Checked.{faultless};
-ghost use Rattle.tables.specs.Filings.{Test, Limits, Odds, row_fault, rows_fault, limit_fault, change_fault, odds_fault, filing_fault, locality_stands};
+ghost use Rattle.tables.specs.Filings.{Test, Limits, Odds, row_fault, rows_fault, limit_fault, change_fault, odds_fault, filing_fault};
 
 use crate::rows::{AssetRow, LocalityRow};
 use limits::{among, first_of, unless, unless_bad};
 use units::refusal::{Reason, Refusal};
 
-// The figures of asset row 1 to 8 against their limit. Row r has the figures from 5r. No list is made: each bill asks this of all rows.
+// The figures of asset row 1 to 8 against their limit. Row r has the figures from 5r.
 fn limit_of_row(row: u8, a: &AssetRow) -> Option<u64>
     ensures { result ≡ row_fault Limits (5 * row) a.now }
 {
@@ -96,12 +96,4 @@ pub fn check_filing(old: &Option<LocalityRow>, new: &LocalityRow) -> Result<(), 
 {
     unless_bad(Reason::FigureLimit, limit_fault(new))?;
     unless_bad(Reason::FiguresAtOdds, odds_fault(old, new))
-}
-
-/// Whether a row counts as a locality.
-#[tactic(auto, unfolding(crate::specs::Filings::locality_stands))]
-pub fn locality_stands(l: &LocalityRow) -> bool
-    ensures { result ≡ locality_stands l.now }
-{
-    l.company <= 15 && check_filing(&None, l).is_ok()
 }

@@ -9,4 +9,5 @@ pub mod lookup;
 pub mod point;
 pub mod rows;
 pub mod service;
+pub mod standing;
 pub mod state;

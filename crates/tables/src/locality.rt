@@ -2,8 +2,8 @@
 ghost use Rattle.std.specs.Prelude.{◌≡◌, true, Some};
 ghost use Rattle.tables.specs.Filings.{locality_stands, Held};
 
-use crate::filing::locality_stands;
 use crate::rows::{LocalityRow, Row};
+use crate::standing::locality_stands;
 use crate::state::State;
 
 pub mod costs;
@@ -35,6 +35,8 @@ impl Row for LocalityRow {
 
     ghost records_stand = { λ l. l.stands };
 
+    // Not inlined, a `None` of 368 bytes is cleared for each point.
+    #[inline(always)]
     fn record(&self) -> Option<Locality> {
         if locality_stands(self) {
             Some(Locality { row: *self })

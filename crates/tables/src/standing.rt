@@ -1,0 +1,43 @@
+// Which rows count as localities: each bill asks this, and not which figure is at fault.
+ghost use Rattle.std.specs.Prelude.{◌≡◌};
+ghost use Rattle.tables.specs.Standing.{row_stands, rows_stand};
+ghost use Rattle.tables.specs.Filings.{locality_stands};
+
+use crate::rows::{AssetRow, LocalityRow};
+use limits::among;
+
+// Whether an asset row has no fault.
+fn row_stands(a: &AssetRow) -> bool
+    ensures { result ≡ row_stands a.now }
+{
+    a.gross <= 10_000_000_000
+        && a.works <= 10_000_000_000
+        && a.remaining <= a.net
+        && a.net <= a.gross
+        && a.remaining <= a.contributions
+        && a.contributions <= a.gross
+}
+
+fn rows_stand(rows: &[AssetRow; 8]) -> bool
+    ensures { result ≡ rows_stand rows.now }
+{
+    for a in rows {
+        if !row_stands(a) {
+            return false;
+        }
+    }
+    true
+}
+
+/// Whether a row counts as a locality.
+#[tactic(auto, using(crate::proofs::Faultless::stands))]
+pub fn locality_stands(l: &LocalityRow) -> bool
+    ensures { result ≡ locality_stands l.now }
+{
+    l.company <= 15
+        && among(2, l.state)
+        && among(8, l.area)
+        && l.expected <= 10_000_000
+        && l.smart <= 10_000_000
+        && rows_stand(&l.rows)
+}
