@@ -1,5 +1,6 @@
 // A journal over a caller's list: its first 1,048,576 places.
-ghost use Rattle.std.specs.Prelude.{◌≡◌, ◌≤◌, min, [], length, take};
+ghost use Rattle.std.specs.Prelude.{◌≡◌, ◌≤◌, min, [], length, take, drop};
+ghost use Rattle.journal.specs.Appending.{append_answer, appended};
 ghost use Rattle.journal.specs.Bounds.{taken_bounded};
 
 use crate::entry::Entry;
@@ -39,7 +40,13 @@ impl<'a> Journal for LentJournal<'a> {
 
     ghost small = { λ j. j.small };
 
-    fn append(&mut self, e: Entry) -> Result<(), Refusal> {
+    // The trait's three clauses, in whose place these stand, and that the places after the entries stay.
+    fn append(&mut self, e: Entry) -> Result<(), Refusal>
+        ensures answer { result ≡ append_answer (length self.old.places.now) (take self.old.used self.old.places.now) }
+        ensures list { take self.new.used self.new.places.now ≡ appended (length self.old.places.now) (take self.old.used self.old.places.now) e }
+        ensures stays { length self.new.places.now ≡ length self.old.places.now }
+        ensures others { drop self.new.used self.new.places.now ≡ drop self.new.used self.old.places.now }
+    {
         let len = self.used;
         if len == self.places.len() {
             return Err(Reason::JournalFull.at(len as u64));
