@@ -1,4 +1,3 @@
 pub mod Year
 pub mod Closings
 pub mod Figures
-pub mod Orders

@@ -2,7 +2,7 @@
 use crate::compare::Tally;
 use crate::numbers::Numbers;
 use crate::tariffs::{compare_by_tariff, tariffs};
-use anyhow::anyhow;
+use anyhow::Context;
 use tariff::supply::{Change, Reading, Supply};
 use tariff::table::Tariff;
 
@@ -13,13 +13,11 @@ fn supply(numbers: &mut Numbers<'_>) -> anyhow::Result<Supply> {
         numbers.take()?,
         numbers.take::<u64>()? == 1,
     )
-    .ok_or(anyhow!("an area or class beyond its limits"))
+    .context("an area or class beyond its limits")
 }
 
 fn reading(numbers: &mut Numbers<'_>) -> anyhow::Result<Reading> {
-    Reading::new(numbers.take()?, numbers.take()?).ok_or(anyhow!(
-        "a volume or days beyond their limits"
-    ))
+    Reading::new(numbers.take()?, numbers.take()?).context("a volume or days beyond their limits")
 }
 
 fn compare_line(
@@ -49,7 +47,7 @@ pub fn run(rt: &HostRuntime) -> anyhow::Result<()> {
 /// In a year of 365 days a bill may bring 365 days, and not 366.
 pub fn boundaries(rt: &HostRuntime) -> anyhow::Result<()> {
     let tables = tariffs(rt)?;
-    let table = tables.get(0).ok_or_else(|| anyhow!("no tariff table"))?;
+    let table = tables.get(0).context("no tariff table")?;
     let supply = supply(&mut Numbers::of("1 1 0"))?;
     let start = reading(&mut Numbers::of("0 0"))?;
     for days in [365, 366] {

@@ -6,7 +6,7 @@ use company::terms::Terms;
 use units::amounts::Cents;
 
 /// An advance in so many instalments, and the least of all else.
-pub fn figures(advance: i64, instalments: u8) -> TermsFigures {
+fn figures(advance: i64, instalments: u8) -> TermsFigures {
     TermsFigures {
         advance,
         instalments,

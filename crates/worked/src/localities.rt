@@ -2,7 +2,7 @@
 use crate::compare::Tally;
 use crate::numbers::Numbers;
 use crate::tariffs::compare_by_tariff;
-use anyhow::anyhow;
+use anyhow::Context;
 use std::array;
 use tables::locality::Locality;
 use tables::rows::{AssetRow, LocalityRow, Row};
@@ -28,15 +28,15 @@ fn locality(numbers: &mut Numbers<'_>) -> anyhow::Result<Locality> {
         smart: numbers.take()?,
         rows: array::try_from_fn(|_| asset_row(numbers))?,
     };
-    row.record()
-        .ok_or_else(|| anyhow!("a locality beyond its limits"))
+    row.record().context("a locality beyond its limits")
 }
 
 // The unit component; where it is refused, the number of the refusal, as the table has it.
 fn component(locality: &Locality, table: &Tariff, service: Service) -> u64 {
-    locality
-        .unit_component(table, service, 0)
-        .unwrap_or_else(|refusal| u64::from(refusal.number()))
+    match locality.unit_component(table, service, 0) {
+        Ok(component) => component,
+        Err(refusal) => u64::from(refusal.number()),
+    }
 }
 
 fn compare_line(

@@ -1,4 +1,4 @@
-// Worked figures: those of the worked year as theorems, tables of independently computed ones, run and compared, and a tour through a book.
+// Worked figures: those of the worked year as theorems, and tables of independently computed ones, run and compared.
 #![tactic(auto)]
 
 mod bills;
@@ -9,7 +9,6 @@ mod numbers;
 mod rules;
 mod served;
 mod tariffs;
-mod tour;
 mod year;
 
 fn run(rt: &HostRuntime) -> anyhow::Result<()> {
@@ -20,8 +19,7 @@ fn run(rt: &HostRuntime) -> anyhow::Result<()> {
     served::run(rt)?;
     rules::run(rt)?;
     rules::boundaries(rt)?;
-    instalments::run(rt)?;
-    tour::run(rt)
+    instalments::run(rt)
 }
 
 fn main(rt: HostRuntime) -> anyhow::Result<()> {

@@ -1,7 +1,9 @@
 // The numbers of a line of a table.
-use anyhow::anyhow;
+use anyhow::Context;
 use std::num::ParseIntError;
 use std::str::{FromStr, SplitWhitespace};
+
+const WRONG_COUNT: &str = "a line of a table has too few numbers or too many";
 
 /// Numbers that are taken one after the other.
 #[derive(Drop)]
@@ -18,21 +20,16 @@ impl<'a> Numbers<'a> {
 
     /// The next number, of the kind that is asked for; an error past the last.
     pub fn take<N: FromStr<Err = ParseIntError>>(&mut self) -> anyhow::Result<N> {
-        let word = self.rest.next().ok_or_else(wrong_count)?;
+        let word = self.rest.next().context(WRONG_COUNT)?;
         Ok(word.parse::<N>()?)
     }
 
-    /// The next numbers, each made into what it is the number of.
-    pub(crate) fn list<T: Copy + Default, const N: usize, F: Fn(u64) -> T>(
-        &mut self,
-        make: F,
-    ) -> anyhow::Result<[T; N]>
-        requires { F.IsAlwaysCallable make }
-    {
+    /// The next numbers.
+    pub fn list<const N: usize>(&mut self) -> anyhow::Result<[u64; N]> {
         // A loop: tried by `array::try_from_fn`, which asks that N of its slots fit in memory, and no bound says that of N.
-        let mut list = [T::default(); N];
+        let mut list = [0; N];
         for item in list.iter_mut() {
-            *item = make(self.take()?);
+            *item = self.take()?;
         }
         Ok(list)
     }
@@ -40,12 +37,8 @@ impl<'a> Numbers<'a> {
     /// An error unless each number was taken.
     pub fn finish(&mut self) -> anyhow::Result<()> {
         match self.rest.next() {
-            Some(_) => Err(wrong_count()),
+            Some(_) => Err(anyhow::Error::msg(WRONG_COUNT)),
             None => Ok(()),
         }
     }
-}
-
-fn wrong_count() -> anyhow::Error {
-    anyhow!("a line of a table has too few numbers or too many")
 }

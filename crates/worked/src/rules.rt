@@ -1,7 +1,7 @@
 // Operating prices, against a table of them, and at the boundaries of size and award year.
 use crate::compare::{Tally, compare_table};
 use crate::numbers::Numbers;
-use anyhow::anyhow;
+use anyhow::{Context, anyhow};
 use management::area_wide::AreaWide;
 use management::municipal::Municipal;
 use management::rule::Management;
@@ -16,15 +16,13 @@ fn price_by<M: Management + TryFrom<[PointPrice; 9], Error = Refusal> + Drop>(
     density: u64,
     year: u64,
 ) -> anyhow::Result<u64> {
-    let rule = M::try_from(prices).map_err(|_| anyhow!("a rule is refused"))?;
-    let traits = Traits::new(points, density, year).ok_or_else(|| anyhow!(
-        "traits beyond their limits"
-    ))?;
+    let rule = M::try_from(prices).context("a rule is refused")?;
+    let traits = Traits::new(points, density, year).context("traits beyond their limits")?;
     Ok(rule.operating_price(traits).0)
 }
 
 fn price_of(kind: &str, numbers: &mut Numbers<'_>) -> anyhow::Result<u64> {
-    let prices = numbers.list(PointPrice)?;
+    let prices = numbers.list()?.map(PointPrice);
     let (points, density, year) = (numbers.take()?, numbers.take()?, numbers.take()?);
     match kind {
         "municipal" => price_by::<Municipal>(prices, points, density, year),
@@ -34,9 +32,7 @@ fn price_of(kind: &str, numbers: &mut Numbers<'_>) -> anyhow::Result<u64> {
 }
 
 fn compare_line(tally: &mut Tally<'_>, line: &str) -> anyhow::Result<()> {
-    let (kind, rest) = line
-        .split_once(' ')
-        .ok_or_else(|| anyhow!("a rule without its prices"))?;
+    let (kind, rest) = line.split_once(' ').context("a rule without its prices")?;
     let mut numbers = Numbers::of(rest);
     let found = price_of(kind, &mut numbers)?;
     tally.compare("operating price", found, numbers.take()?)?;

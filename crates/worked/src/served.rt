@@ -2,23 +2,21 @@
 use crate::compare::Tally;
 use crate::numbers::Numbers;
 use crate::tariffs::compare_by_tariff;
-use anyhow::anyhow;
+use anyhow::Context;
 use revenue::costs::Costs;
 use revenue::served::Served;
 use tariff::table::Tariff;
 use units::amounts::PointPrice;
 
 fn served(numbers: &mut Numbers<'_>, table: &Tariff) -> anyhow::Result<Served> {
-    Served::of(table, numbers.take()?, numbers.take()?).ok_or_else(|| anyhow!(
-        "more served points than a book can have"
-    ))
+    Served::of(table, numbers.take()?, numbers.take()?).context(
+        "more served points than a book can have",
+    )
 }
 
 // The operating price alone: verification and central cost are none.
 fn costs(numbers: &mut Numbers<'_>) -> anyhow::Result<Costs> {
-    Costs::new(PointPrice(numbers.take()?), 0, 0).ok_or_else(|| anyhow!(
-        "an operating price beyond its limit"
-    ))
+    Costs::new(PointPrice(numbers.take()?), 0, 0).context("an operating price beyond its limit")
 }
 
 fn compare_line(

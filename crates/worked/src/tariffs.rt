@@ -1,7 +1,7 @@
 // Tariff tables from their figures in order.
 use crate::compare::{Tally, compare_table};
 use crate::numbers::Numbers;
-use anyhow::anyhow;
+use anyhow::Context;
 use std::{array, fs};
 use tariff::figures::{Bracket, Coefficient, Life, Rate, TariffFigures};
 use tariff::table::Tariff;
@@ -13,9 +13,7 @@ pub fn tariffs(rt: &HostRuntime) -> anyhow::Result<Vec<Tariff>> {
     let mut tables = Vec::new(rt.alloc());
     for line in text.as_str().lines() {
         if !line.starts_with('#') {
-            tables
-                .push(tariff(line)?)
-                .map_err(|_| anyhow!("no memory"))?;
+            tables.push(tariff(line)?)?;
         }
     }
     Ok(tables)
@@ -36,18 +34,16 @@ pub(crate) fn compare_by_tariff<
     })
 }
 
-/// The table with a number, from 0.
-pub fn table_at(tables: &[Tariff], number: u64) -> anyhow::Result<&Tariff> {
-    tables
-        .get(number as usize)
-        .ok_or_else(|| anyhow!("no such tariff table"))
+// The table with a number, from 0.
+fn table_at(tables: &[Tariff], number: u64) -> anyhow::Result<&Tariff> {
+    tables.get(number as usize).context("no such tariff table")
 }
 
 fn tariff(line: &str) -> anyhow::Result<Tariff> {
     let mut numbers = Numbers::of(line);
     let figures = tariff_figures(&mut numbers)?;
     numbers.finish()?;
-    Tariff::try_from(figures).map_err(|_| anyhow!("a tariff table is refused"))
+    Tariff::try_from(figures).context("a tariff table is refused")
 }
 
 fn brackets(numbers: &mut Numbers<'_>, count: usize) -> anyhow::Result<[Bracket; 8]> {
@@ -67,8 +63,8 @@ fn brackets(numbers: &mut Numbers<'_>, count: usize) -> anyhow::Result<[Bracket;
 
 fn tariff_figures(numbers: &mut Numbers<'_>) -> anyhow::Result<TariffFigures> {
     let days = numbers.take()?;
-    let distribution = numbers.list(PointPrice)?;
-    let metering = numbers.list(PointPrice)?;
+    let distribution = numbers.list()?.map(PointPrice);
+    let metering = numbers.list()?.map(PointPrice);
     let commercial = PointPrice(numbers.take()?);
     let count = numbers.take()?;
     Ok(TariffFigures {
@@ -78,11 +74,11 @@ fn tariff_figures(numbers: &mut Numbers<'_>) -> anyhow::Result<TariffFigures> {
         commercial,
         count,
         brackets: brackets(numbers, count)?,
-        coefficients: numbers.list(Coefficient)?,
+        coefficients: numbers.list()?.map(Coefficient),
         gs: VolumePrice(numbers.take()?),
         ug1: VolumePrice(numbers.take()?),
         rate: Rate(numbers.take()?),
-        lives: numbers.list(Life)?,
+        lives: numbers.list()?.map(Life),
         cou: PointPrice(numbers.take()?),
         coa: PointPrice(numbers.take()?),
         telcon: PointPrice(numbers.take()?),

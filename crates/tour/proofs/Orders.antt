@@ -1,14 +1,16 @@
--- What becomes of an order that is sent.
-use Rattle.std.proofs.Common.{◌≡◌, ℕ, zero, suc, ◌<◌, List, [], ◌∷◌, length, get_or, set, Some, None, Ok, Err, Option, Result, arith}
+-- What becomes of an order that is sent, and of a book that refuses.
+use Rattle.std.proofs.Common.{◌≡◌, ℕ, zero, suc, ◌<◌, List, [], ◌∷◌, length, get_or, set, Some, None, Ok, Err, Option, Result, IsOk, arith}
 use Rattle.std.proofs.lemmas.Grind.{common_steps}
 use Rattle.std.proofs.lemmas.List.{get_or-set_same}
+use Rattle.units.specs.declared.amounts.Cents.{Cents}
 use Rattle.units.specs.declared.refusal.Refusal.{Refusal}
+use Rattle.company.specs.declared.record.Company.{Company}
 use Rattle.book.specs.declared.order.DrawnOrder.{DrawnOrder}
 use Rattle.book.specs.declared.order.SentOrder.{SentOrder}
 use Rattle.book.specs.declared.order.Returned.{Returned}
 use Rattle.book.specs.States.{BookState}
-use Rattle.book.specs.Companies.{sending, moved, spends}
-use Rattle.worked.specs.Orders.{CanBounce}
+use Rattle.book.specs.Companies.{sending, bouncing, moved, spends}
+use Rattle.book.specs.Closings.{balance_of, closed_by}
 
 -- what stands at a place stands within the table
 within : {A : Type 0} (xs : List (Option A)) (place : ℕ) (a : A) → get_or xs place None ≡ Some a → place < length xs
@@ -20,10 +22,15 @@ replaced : {A : Type 0} (xs : List (Option A)) (place : ℕ) (a b : A) → get_o
 replaced xs place a b there = get_or-set_same xs place (Some b) None (within xs place a there)
 
 -- a sent order can bounce
-pub sent_bounces : (b after : BookState) (drawn : DrawnOrder) (sent : SentOrder) → Ok sent ≡ spends drawn (λ d. record { order = drawn.order }) (sending b drawn.order) → after ≡ moved b drawn.order.company (sending b drawn.order) → CanBounce after sent.order
+pub sent_bounces : (b after : BookState) (drawn : DrawnOrder) (sent : SentOrder) → Ok sent ≡ spends drawn (λ d. record { order = drawn.order }) (sending b drawn.order) → after ≡ moved b drawn.order.company (sending b drawn.order) → IsOk (bouncing after sent.order)
 sent_bounces b after drawn sent answer moves = grind (arith, common_steps, replaced)
 
 -- a refused order comes back as it was
 pub spends_back : {O X Y : Type 0} (o : O) (gives : X → Y) (answer : Result X Refusal) (back : Returned O) → Err back ≡ spends o gives answer → back.order ≡ o
 spends_back o gives (Ok x) back refused = cc
 spends_back o gives (Err r) back refused = cc
+
+-- a refused closing leaves the book as it was
+pub refused_stays : (b after : BookState) (company : ℕ) (closing : Result (Company × Cents) Refusal) (answer : Result Cents Refusal) (r : Refusal) → after ≡ closed_by b company closing → answer ≡ balance_of closing → answer ≡ Err r → after ≡ b
+refused_stays b after company (Ok d) answer r closes answers refused = cc
+refused_stays b after company (Err x) answer r closes answers refused = cc

@@ -1,59 +1,55 @@
 // The calls on orders: what is refused comes back, and its own book takes it back in the end.
 ghost use Rattle.std.specs.Prelude.{◌≡◌, None, IfOk, IfErr, IfSome};
-ghost use Rattle.book.specs.States.{state};
-ghost use Rattle.worked.specs.Orders.{CanCancel, CanBounce};
+ghost use Rattle.tour.specs.Orders.{state_of, CanCancel, CanBounce};
 
-use crate::tour::keeper::Keeper;
-use crate::tour::lines::Lines;
+use crate::keeper::Keeper;
 use book::order::{DrawnOrder, Returned, SentOrder};
-use journal::kept::Journal;
-use management::rule::Management;
+use lines::{Call, Lines};
 
-impl<'a, J: Journal, M: Management> Keeper<'a, J, M> {
+impl<'a> Keeper<'a> {
     pub fn draw(&mut self, lines: &mut Lines<'_>, company: u64) -> Option<DrawnOrder>
-        ensures { IfSome result (λ drawn. CanCancel (state J.Journal M.Management self.new.book) drawn.order) }
+        ensures { IfSome result (λ drawn. CanCancel self.new.book drawn.order) }
     {
-        let call = format_args!("draw an order of company {company}");
+        let call = Call::new(self.at, "draw an order of company", company);
         match self.book.draw(company) {
             Ok(drawn) => {
-                self.granted(lines, call, "instalment", drawn.order().instalment);
+                lines.granted(call, "instalment", drawn.order().instalment);
                 Some(drawn)
             }
             Err(refusal) => {
-                self.refused(lines, call, refusal);
+                lines.refused(call, refusal);
                 None
             }
         }
     }
 
     /// Draws while an order of the company is out, which is refused.
-    pub(super) fn draw_again(&mut self, lines: &mut Lines<'_>, drawn: &DrawnOrder)
-        requires { CanCancel (state J.Journal M.Management self.old.book) drawn.now.order }
-        ensures { state J.Journal M.Management self.new.book ≡ state J.Journal M.Management self.old.book }
+    pub(crate) fn draw_again(&mut self, lines: &mut Lines<'_>, drawn: &DrawnOrder)
+        requires { CanCancel self.old.book drawn.now.order }
+        ensures { state_of self.new.book ≡ state_of self.old.book }
     {
         let company = drawn.order().company;
         let refusal = self.book.draw(company).unwrap_err();
-        self.refused(
-            lines,
-            format_args!("draw an order of company {company}"),
+        lines.refused(
+            Call::new(self.at, "draw an order of company", company),
             refusal,
         );
     }
 
     /// Cancels an order; a refused one comes back.
     pub fn cancel(&mut self, lines: &mut Lines<'_>, drawn: DrawnOrder) -> Option<DrawnOrder>
-        ensures granted { CanCancel (state J.Journal M.Management self.old.book) drawn.order → result ≡ None }
+        ensures granted { CanCancel self.old.book drawn.order → result ≡ None }
         ensures refused { IfSome result (λ back. back ≡ drawn) }
     {
         let order = drawn.order();
-        let call = format_args!("cancel the order of company {}", order.company);
+        let call = Call::new(self.at, "cancel the order of company", order.company);
         match self.book.cancel(drawn) {
             Ok(()) => {
-                self.granted(lines, call, "instalment", order.instalment);
+                lines.granted(call, "instalment", order.instalment);
                 None
             }
             Err(Returned { order, refusal }) => {
-                self.refused(lines, call, refusal);
+                lines.refused(call, refusal);
                 Some(order)
             }
         }
@@ -65,19 +61,19 @@ impl<'a, J: Journal, M: Management> Keeper<'a, J, M> {
         lines: &mut Lines<'_>,
         drawn: DrawnOrder,
     ) -> Result<SentOrder, DrawnOrder>
-        ensures granted { IfOk result (λ sent. CanBounce (state J.Journal M.Management self.new.book) sent.order) }
+        ensures granted { IfOk result (λ sent. CanBounce self.new.book sent.order) }
         ensures refused { IfErr result (λ back. back ≡ drawn) }
-        ensures stays { IfErr result (λ back. state J.Journal M.Management self.new.book ≡ state J.Journal M.Management self.old.book) }
+        ensures stays { IfErr result (λ back. state_of self.new.book ≡ state_of self.old.book) }
     {
         let order = drawn.order();
-        let call = format_args!("send the order of company {}", order.company);
+        let call = Call::new(self.at, "send the order of company", order.company);
         match self.book.send(drawn) {
             Ok(sent) => {
-                self.granted(lines, call, "instalment", order.instalment);
+                lines.granted(call, "instalment", order.instalment);
                 Ok(sent)
             }
             Err(Returned { order, refusal }) => {
-                self.refused(lines, call, refusal);
+                lines.refused(call, refusal);
                 Err(order)
             }
         }
@@ -85,18 +81,18 @@ impl<'a, J: Journal, M: Management> Keeper<'a, J, M> {
 
     /// Takes a sent order back, unpaid; a refused one comes back.
     pub fn bounce(&mut self, lines: &mut Lines<'_>, sent: SentOrder) -> Option<SentOrder>
-        ensures granted { CanBounce (state J.Journal M.Management self.old.book) sent.order → result ≡ None }
+        ensures granted { CanBounce self.old.book sent.order → result ≡ None }
         ensures refused { IfSome result (λ back. back ≡ sent) }
     {
         let order = sent.order();
-        let call = format_args!("bounce the order of company {}", order.company);
+        let call = Call::new(self.at, "bounce the order of company", order.company);
         match self.book.bounce(sent) {
             Ok(()) => {
-                self.granted(lines, call, "instalment", order.instalment);
+                lines.granted(call, "instalment", order.instalment);
                 None
             }
             Err(Returned { order, refusal }) => {
-                self.refused(lines, call, refusal);
+                lines.refused(call, refusal);
                 Some(order)
             }
         }
@@ -105,16 +101,20 @@ impl<'a, J: Journal, M: Management> Keeper<'a, J, M> {
     /// Pays an order; a refused one comes back.
     pub fn confirm(&mut self, lines: &mut Lines<'_>, sent: SentOrder) -> Option<SentOrder>
         ensures refused { IfSome result (λ back. back ≡ sent) }
-        ensures stays { IfSome result (λ back. state J.Journal M.Management self.new.book ≡ state J.Journal M.Management self.old.book) }
+        ensures stays { IfSome result (λ back. state_of self.new.book ≡ state_of self.old.book) }
     {
-        let call = format_args!("confirm the order of company {}", sent.order().company);
+        let call = Call::new(
+            self.at,
+            "confirm the order of company",
+            sent.order().company,
+        );
         match self.book.confirm(sent) {
             Ok(amount) => {
-                self.granted(lines, call, amount, "cents");
+                lines.granted(call, "advance", amount);
                 None
             }
             Err(Returned { order, refusal }) => {
-                self.refused(lines, call, refusal);
+                lines.refused(call, refusal);
                 Some(order)
             }
         }

@@ -1,18 +1,15 @@
 // Orders up to their end: each is spent at its own book, whatever another one answers.
 ghost use Rattle.std.specs.Prelude.{◌≡◌, IfSome};
-ghost use Rattle.book.specs.States.{state};
-ghost use Rattle.worked.specs.Orders.{CanCancel, CanBounce};
+ghost use Rattle.tour.specs.Orders.{CanCancel, CanBounce};
 
-use crate::tour::keeper::Keeper;
-use crate::tour::lines::Lines;
+use crate::keeper::Keeper;
 use book::order::{DrawnOrder, SentOrder};
-use journal::kept::Journal;
-use management::rule::Management;
+use lines::Lines;
 
-impl<'a, J: Journal, M: Management> Keeper<'a, J, M> {
+impl<'a> Keeper<'a> {
     /// Cancels the order that is out.
-    pub(super) fn take_back(&mut self, lines: &mut Lines<'_>, drawn: DrawnOrder)
-        requires { CanCancel (state J.Journal M.Management self.old.book) drawn.order }
+    pub(crate) fn take_back(&mut self, lines: &mut Lines<'_>, drawn: DrawnOrder)
+        requires { CanCancel self.old.book drawn.order }
     {
         if let Some(_refused) = self.cancel(lines, drawn) {
             unreachable!()
@@ -21,7 +18,7 @@ impl<'a, J: Journal, M: Management> Keeper<'a, J, M> {
 
     /// Takes back the order that is out and sent.
     pub(super) fn take_back_sent(&mut self, lines: &mut Lines<'_>, sent: SentOrder)
-        requires { CanBounce (state J.Journal M.Management self.old.book) sent.order }
+        requires { CanBounce self.old.book sent.order }
     {
         if let Some(_refused) = self.bounce(lines, sent) {
             unreachable!()
@@ -30,8 +27,8 @@ impl<'a, J: Journal, M: Management> Keeper<'a, J, M> {
 
     /// Sends the order that is out.
     pub(super) fn send_out(&mut self, lines: &mut Lines<'_>, drawn: DrawnOrder) -> Option<SentOrder>
-        requires { CanCancel (state J.Journal M.Management self.old.book) drawn.order }
-        ensures { IfSome result (λ sent. CanBounce (state J.Journal M.Management self.new.book) sent.order) }
+        requires { CanCancel self.old.book drawn.order }
+        ensures { IfSome result (λ sent. CanBounce self.new.book sent.order) }
     {
         match self.send(lines, drawn) {
             Ok(sent) => Some(sent),
@@ -78,7 +75,7 @@ impl<'a, J: Journal, M: Management> Keeper<'a, J, M> {
     }
 
     /// Takes an order of this book to another, drawn and sent, and then takes it back.
-    pub fn stray(&mut self, lines: &mut Lines<'_>, other: &mut Keeper<'a, J, M>, company: u64) {
+    pub fn stray(&mut self, lines: &mut Lines<'_>, other: &mut Keeper<'a>, company: u64) {
         let Some(drawn) = self.draw(lines, company) else {
             return;
         };
