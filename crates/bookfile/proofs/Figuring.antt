@@ -1,15 +1,20 @@
 -- Reading figures word by word: whatever the rest of the words gives, the whole gives.
-use Rattle.std.proofs.Common.{◌≡◌, ℕ, ◌<◌, false, List, [], ◌∷◌, ◌++◌, map, length, get_or, set, bytes_eq, position, Bor, ℤ, is_some, Some, None, Option, sym, refl, ap, ◌∙◌, subst, arith, SFits, to_z, of_z}
+use Rattle.std.proofs.Common.{◌≡◌, ℕ, ◌<◌, false, List, [], ◌∷◌, ◌++◌, map, length, replicate, get_or, set, bytes_eq, position, Bor, cond, nat_lt, ◌≤◌, ℤ, is_some, Some, None, Option, sym, refl, ap, ◌∙◌, subst, arith, SFits, to_z, of_z}
 use mir.Syntax.{w128}
 use Rattle.std.proofs.lemmas.Int.{to_z-of_z}
 use Rattle.std.proofs.lemmas.List.{length-map, get_or-map}
+use Rattle.std.proofs.lemmas.Bool.{true≢false}
+use Rattle.std.proofs.lemmas.Bool.Decides.{nat_tests}
 use Rattle.std.proofs.lemmas.List.Quantifiers.{position-Some}
+use Rattle.std.proofs.lemmas.List.Sums.{fails_before_first}
+use Rattle.std.specs.List.{position_or_len}
 use Rattle.std.proofs.lemmas.Slice.Eq.{bytes_eq-Decides}
 use Rattle.std.specs.Str.Parse.{signed_digits_value}
 use Rattle.std.specs.Char.{is_whitespace, is_not_whitespace}
 use Rattle.std.specs.Str.{NoCharPasses, EmptyOrStartsWithPassing}
 use Rattle.bookfile.specs.declared.statement.Statement.{Statement}
-use Rattle.bookfile.specs.Grammar.{names_of, Plain, First, Words, Gives, Filled}
+use Rattle.bookfile.specs.Faults.{Opens, Spells}
+use Rattle.bookfile.specs.Grammar.{keyword_of, names_of, Plain, First, Words, Gives, Filled, Before, Speaks}
 
 pub not_given : (o : Option ℤ) → false ≡ is_some o → o ≡ None
 not_given None e = refl
@@ -26,6 +31,28 @@ name_at (n ∷ ns) name i e =
     let at = position-Some (λ known. bytes_eq known.now name) (n ∷ ns) i n e in
     (simp length-map at.0, get_or-map (λ m. m.now) (n ∷ ns) i n [] at.0 ∙ (bytes_eq-Decides _ _).0 at.1)
 
+not_within : (n len : ℕ) → cond (nat_lt n len) (Some n) None ≡ None → len ≤ n
+not_within n len none = grind (arith, nat_tests)
+
+-- what it says of one that is not among them
+pub no_name : (names : List (Bor (List ℕ))) (name : List ℕ) → position (λ known. bytes_eq known.now name) names ≡ None → (i : ℕ) → i < length (map (λ n. n.now) names) → get_or (map (λ n. n.now) names) i [] ≡ name → ⊥
+no_name [] name none i h e = absurd (omega arith)
+no_name (n ∷ ns) name none i h e =
+    let known = λ (m : Bor (List ℕ)). bytes_eq m.now name in
+    let inside : i < length (n ∷ ns) = simp length-map at h in
+    let beyond = not_within (position_or_len known (n ∷ ns)) (length (n ∷ ns)) none in
+    let fails = fails_before_first known (n ∷ ns) i n (omega arith) in
+    let same = (bytes_eq-Decides _ _).1 (sym (get_or-map (λ m. m.now) (n ∷ ns) i n [] inside) ∙ e) in
+    true≢false (sym same ∙ fails)
+
+-- a word that is cut at its equals sign, with a name that is known
+pub spells : (s : Statement) (w name text : List ℕ) (names : List (List ℕ)) (i : ℕ) → names ≡ names_of s → w ≡ name ++ (61 ∷ text) → (i < length names) × (get_or names i [] ≡ name) → Spells s w i text
+spells s w name text names i known cut at =
+    record {
+      place = subst (λ ns. i < length ns) known at.0;
+      cut = cut ∙ ap (λ m. m ++ (61 ∷ text)) (sym at.1 ∙ ap (λ ns. get_or ns i []) known);
+    }
+
 -- a word that is cut at its equals sign, with a name that is known and a plain number
 pub gives : (s : Statement) (w name text : List ℕ) (names : List (List ℕ)) (i : ℕ) (n : ℤ) → names ≡ names_of s → w ≡ name ++ (61 ∷ text) → (i < length names) × (get_or names i [] ≡ name) → Plain text × (n ≡ signed_digits_value 10 text) → Gives s w i (to_z w128 (of_z w128 n))
 gives s w name text names i n known cut at (plain, value) =
@@ -37,13 +64,48 @@ gives s w name text names i n known cut at (plain, value) =
       value = let fits : SFits w128 n = subst (SFits w128) (sym value) plain.2 in to_z-of_z w128 n fits ∙ value;
     }
 
-abbrev pub Carries : Statement → List ℕ → List (Option ℤ) → List ℕ → List (Option ℤ) → Type 0
-Carries s text before rest now =
-    (ws : List (List ℕ)) (all : List (Option ℤ)) → Words rest ws → Filled s ws now all → (vs : List (List ℕ)) × Words text vs × Filled s vs before all
+-- a number as it is stored
+pub stored : {s : Statement} {w : List ℕ} {i : ℕ} (n : ℤ) → Gives s w i n → Gives s w i (to_z w128 (of_z w128 n))
+stored n g =
+    record {
+      numeral = g.numeral;
+      place = g.place;
+      cut = g.cut;
+      plain = g.plain;
+      value = let fits : SFits w128 n = subst (SFits w128) (sym g.value) g.plain.2 in to_z-of_z w128 n fits ∙ g.value;
+    }
 
-module _ {s : Statement} {text : List ℕ} {before : List (Option ℤ)} {rest : List ℕ} {now : List (Option ℤ)} (old : Carries s text before rest now) where
-  pub carries_more : (w next : List ℕ) (i : ℕ) (z : ℤ) → First rest w next → Gives s w i z → get_or now i None ≡ None → Carries s text before next (set now i (Some z))
-  carries_more w next i z first gives none ws all words filled = old (w ∷ ws) all (next, first, words) (i, z, gives, none, filled)
+-- one word more of a text that begins with words
+pub opens_more : (bs : List ℕ) (vs : List (List ℕ)) (rest w next : List ℕ) → Opens bs vs rest → First rest w next → Opens bs (vs ++ w ∷ []) next
+opens_more bs [] rest w next e first = (next, subst (λ b. First b w next) e first, refl)
+opens_more bs (v ∷ vs) rest w next (more, f, opens) first = (more, f, opens_more more vs rest w next opens first)
 
-  pub carries_all : Words rest [] → (vs : List (List ℕ)) × Words text vs × Filled s vs before now
-  carries_all none = old [] now none refl
+pub opens_all : (bs : List ℕ) (vs : List (List ℕ)) (rest : List ℕ) → Opens bs vs rest → Words rest [] → Words bs vs
+opens_all bs [] rest e none = subst (λ b. Words b []) e none
+opens_all bs (v ∷ vs) rest (more, f, opens) none = (more, f, opens_all more vs rest opens none)
+
+pub filled_more : (s : Statement) (vs : List (List ℕ)) (before now : List (Option ℤ)) (w : List ℕ) (i : ℕ) (z : ℤ) → Filled s vs before now → Gives s w i z → get_or now i None ≡ None → Filled s (vs ++ w ∷ []) before (set now i (Some z))
+filled_more s [] before now w i z e gives none = (i, z, gives, ap (λ l. get_or l i None) (sym e) ∙ none, ap (λ l. set l i (Some z)) e)
+filled_more s (v ∷ vs) before now w i z (j, y, given, free, filled) gives none = (j, y, given, free, filled_more s vs (set before j (Some y)) now w i z filled gives none)
+
+-- a row whose words are read
+pub speaks : (row text w rest : List ℕ) (s : Statement) (zs : List (Option ℤ)) → Before row text → First text w rest → w ≡ keyword_of s → (ws : List (List ℕ)) × Words rest ws × Filled s ws (replicate 46 None) zs → Speaks row s zs
+speaks row text w rest s zs before first is (ws, words, filled) = (text, ws, before, (rest, subst (λ v. First text v rest) is first, words), filled)
+
+-- words of a text that are read, the figures that they give, and the rest
+pub record ReadTo (s : Statement) (text rest : List ℕ) (before now : List (Option ℤ)) : Type 0 where
+  pub words : List (List ℕ)
+  pub opens : Opens text words rest
+  pub filled : Filled s words before now
+
+module _ {s : Statement} {text rest : List ℕ} {before now : List (Option ℤ)} (old : ReadTo s text rest before now) where
+  pub read_more : (w next : List ℕ) (i : ℕ) (z : ℤ) → First rest w next → Gives s w i z → get_or now i None ≡ None → ReadTo s text next before (set now i (Some z))
+  read_more w next i z first gives none =
+      record {
+        words = old.words ++ w ∷ [];
+        opens = opens_more text old.words rest w next old.opens first;
+        filled = filled_more s old.words before now w i z old.filled gives none;
+      }
+
+  pub read_all : Words rest [] → (vs : List (List ℕ)) × Words text vs × Filled s vs before now
+  read_all none = (old.words, opens_all text old.words rest old.opens none, old.filled)

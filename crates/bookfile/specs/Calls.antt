@@ -1,5 +1,5 @@
 -- What call each statement makes, by its figures.
-use Rattle.std.specs.Prelude.{ℕ, min, cond, List, ℤ, Some, None, Option, ◌==◌}
+use Rattle.std.specs.Prelude.{ℕ, cond, List, ℤ, Some, None, Option, ◌==◌}
 use Rattle.std.specs.Option.{option_map}
 use Rattle.company.specs.declared.figures.TermsFigures.{TermsFigures}
 use Rattle.tariff.specs.declared.supply.Change.{Change}

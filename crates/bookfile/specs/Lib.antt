@@ -6,5 +6,6 @@ pub mod Calls
 pub mod Slots
 pub mod Tables
 pub mod Filed
+pub mod Faults
 pub mod Files
 pub mod Naming

@@ -1,9 +1,10 @@
 // Reading a line, and the figures that it gives.
-ghost use Rattle.std.specs.Prelude.{◌≡◌, ℕ, List, replicate, None, is_ok, IfOk, MatchOption, OnOk, bytes_eq, position};
+ghost use Rattle.std.specs.Prelude.{◌≡◌, ◌<◌, ℕ, List, replicate, None, is_ok, IfErr, IfOk, MatchOption, OnOk, bytes_eq, position, slice_index_or};
 ghost use Rattle.std.specs.Str.Parse.{signed_digits_value};
 ghost use Rattle.std.specs.Str.Iter.{split_whitespace_rest};
 ghost use Rattle.bookfile.specs.declared.statement.TheConstants.{MOST_FIGURES};
-ghost use Rattle.bookfile.specs.Grammar.{Before, Filled, Plain, Silent, Speaks, Words};
+ghost use Rattle.bookfile.specs.Faults.{BadFigure, BadWord, Misread, WordFault, figure_fault};
+ghost use Rattle.bookfile.specs.Grammar.{Before, Filled, Gives, Plain, Silent, Speaks, Words};
 ghost use Rattle.bookfile.specs.Syntax.{allowed, Good};
 
 use super::Line;
@@ -14,7 +15,8 @@ use std::str::SplitWhitespace;
 impl Line {
     /// Reads a line; one that is empty or a comment says nothing.
     pub(crate) fn read(line: &str) -> Result<Option<Line>, Malformed>
-        ensures { IfOk result (λ o. MatchOption o (Silent line.now) (λ l. Speaks line.now l.statement l.figures)) }
+        ensures ok { IfOk result (λ o. MatchOption o (Silent line.now) (λ l. Speaks line.now l.statement l.figures)) }
+        ensures err { IfErr result (Misread line.now) }
     {
         let mut words = before_comment(line).split_whitespace();
         let Some(keyword) = words.next() else {
@@ -42,20 +44,35 @@ fn read_figures(
     statement: Statement,
     words: SplitWhitespace<'_>,
 ) -> Result<[Option<i128>; MOST_FIGURES], Malformed>
-    ensures { IfOk result (λ figures. (ws : List (List ℕ)) × Words (split_whitespace_rest words.entry) ws × Filled statement ws (replicate MOST_FIGURES None) figures) }
+    ensures ok { IfOk result (λ figures. (ws : List (List ℕ)) × Words (split_whitespace_rest words.entry) ws × Filled statement ws (replicate MOST_FIGURES None) figures) }
+    ensures err { IfErr result (BadWord statement (split_whitespace_rest words.entry)) }
 {
     let mut figures = [None; MOST_FIGURES];
     for word in words {
-        let (name, text) = word.split_once('=').ok_or(Malformed::Word)?;
-        let place = place_of(name, statement.names()).ok_or(Malformed::Name(statement))?;
-        let field = Field { statement, place };
-        if figures[place].is_some() {
-            return Err(Malformed::Repeated(field));
-        }
-        let n = number(text).ok_or(Malformed::Number(field))?;
+        let (place, n) = read_figure(statement, word, &figures)?;
         figures[place] = Some(n);
     }
     Ok(figures)
+}
+
+// The place and the number of the figure that a word gives, beside those that are given before.
+fn read_figure(
+    statement: Statement,
+    word: &str,
+    given: &[Option<i128>; MOST_FIGURES],
+) -> Result<(usize, i128), Malformed>
+    ensures place { IfOk result (λ figure. figure.0 < MOST_FIGURES) }
+    ensures ok { IfOk result (λ figure. Gives statement word.now figure.0 figure.1 × (slice_index_or given.now figure.0 None ≡ None)) }
+    ensures err { IfErr result (WordFault statement given.now word.now) }
+{
+    let (name, text) = word.split_once('=').ok_or(Malformed::Word)?;
+    let place = place_of(name, statement.names()).ok_or(Malformed::Name(statement))?;
+    let field = Field { statement, place };
+    if given[place].is_some() {
+        return Err(Malformed::Repeated(field));
+    }
+    let n = number(text).ok_or(Malformed::Number(field))?;
+    Ok((place, n))
 }
 
 // The place of a name among the names of a statement.
@@ -80,7 +97,8 @@ fn check_figures(
     statement: Statement,
     figures: &[Option<i128>; MOST_FIGURES],
 ) -> Result<(), Malformed>
-    ensures { OnOk result (Good statement figures.now) }
+    ensures ok { OnOk result (Good statement figures.now) }
+    ensures err { IfErr result (BadFigure statement figures.now) }
 {
     for (place, figure) in figures.iter().enumerate() {
         check_figure(Field { statement, place }, *figure)?;
@@ -89,7 +107,8 @@ fn check_figures(
 }
 
 fn check_figure(field: Field, figure: Option<i128>) -> Result<(), Malformed>
-    ensures { is_ok result ≡ allowed field.statement field.place figure }
+    ensures test { is_ok result ≡ allowed field.statement field.place figure }
+    ensures err { IfErr result (λ e. e ≡ figure_fault field figure) }
 {
     match figure {
         Some(n) if field.kind().allows(n) => Ok(()),

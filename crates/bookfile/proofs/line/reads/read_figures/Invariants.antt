@@ -1,7 +1,7 @@
 use Rattle.std.specs.Str.Iter.{split_whitespace_rest}
-use Rattle.bookfile.proofs.Figuring.{Carries}
+use Rattle.bookfile.proofs.Figuring.{ReadTo}
 use Rattle.bookfile.proofs.line.reads.read_figures.Given as goal
 
 abbrev pub invariant-loop-word : goal.invariant-loop-word
 invariant-loop-word l =
-    Carries l.statement (split_whitespace_rest l.words) l.initial.figures (split_whitespace_rest l.word-iterator) l.figures
+    ReadTo l.statement (split_whitespace_rest l.words) (split_whitespace_rest l.word-iterator) l.initial.figures l.figures
