@@ -1,7 +1,9 @@
 // Putting the figures of statements into the table.
-ghost use Rattle.std.specs.Prelude.{◌≡◌, ◌+◌, ◌-◌, ◌*◌, ◌≤◌, IfSome};
+ghost use Rattle.std.specs.Prelude.{◌≡◌, ◌+◌, ◌-◌, ◌*◌, ◌≤◌, IfErr, IfNone, IfSome};
 ghost use Rattle.bookfile.specs.declared.statement.TheConstants.{MOST_FIGURES};
 ghost use Rattle.bookfile.specs.declared.table.TheConstants.{SLOTS};
+ghost use Rattle.bookfile.specs.declared.statement.Statement.TheVariants.{Bracket};
+ghost use Rattle.bookfile.specs.Faults.{Untaken};
 ghost use Rattle.bookfile.specs.Numbers.{whole_at};
 ghost use Rattle.bookfile.specs.Slots.{Puts};
 ghost use Rattle.bookfile.specs.Tables.{empty_table, next_bracket, span_of, table_after};
@@ -28,7 +30,8 @@ impl Table {
 
     /// Takes the figures of a statement on the table; of another statement it takes none.
     pub(crate) fn put(&mut self, line: &Line) -> Result<(), Malformed>
-        ensures { Puts (table_after line.now.statement line.now.figures self.old) result self.new }
+        ensures puts { Puts (table_after line.now.statement line.now.figures self.old) result self.new }
+        ensures err { IfErr result (Untaken line.now self.old) }
     {
         let span = line_span(line, self.brackets).ok_or(Malformed::NinthBracket)?;
         put_all(&mut self.slots, line, span)?;
@@ -40,6 +43,7 @@ impl Table {
 // The span of a line, where the table has so many brackets; none for a ninth bracket.
 fn line_span(line: &Line, brackets: usize) -> Option<Span>
     ensures value { result ≡ span_of line.now.statement line.now.figures brackets }
+    ensures none { IfNone result ((line.now.statement ≡ Bracket) × (8 ≤ brackets)) }
     ensures room { IfSome result (λ s. (s.slot + s.count ≤ SLOTS) × (s.first + s.count ≤ MOST_FIGURES)) }
 {
     let (slot, first, count) = match line.statement {
