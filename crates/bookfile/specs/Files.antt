@@ -7,10 +7,12 @@ use Rattle.calls.specs.declared.call.Call.{Call}
 use Rattle.bookfile.specs.declared.file.BookFile.{BookFile}
 use Rattle.bookfile.specs.declared.file.NumberedCall.{NumberedCall}
 use Rattle.bookfile.specs.declared.file.Unread.{Unread}
-use Rattle.bookfile.specs.declared.file.Unread.TheVariants.{Malformed, Memory}
+use Rattle.bookfile.specs.declared.file.Unread.TheVariants.{Malformed as MalformedAt, Memory}
 use Rattle.bookfile.specs.declared.line.Line.{Line}
+use Rattle.bookfile.specs.declared.malformed.Malformed.{Malformed}
 use Rattle.bookfile.specs.declared.table.Table.{Table}
 use Rattle.bookfile.specs.Calls.{call_of}
+use Rattle.bookfile.specs.Faults.{Fault}
 use Rattle.bookfile.specs.Filed.{filed, rule_of, opening_of}
 use Rattle.bookfile.specs.Filings.{filing_of}
 use Rattle.bookfile.specs.Grammar.{Silent, Speaks}
@@ -104,9 +106,30 @@ pub record Says (text : List ℕ) (book : BookFile) : Type 0 where
   pub calls : vec_items book.calls ≡ calls_of lines
   pub sound : AllByRecursion (Sound text) (vec_items book.calls)
 
--- a malformed line is one of the text's
+-- rows are the first lines of a text, and rest is left
+abbrev pub RowsBefore : List ℕ → List (List ℕ) → List ℕ → Type 0
+RowsBefore bs [] rest = rest ≡ bs
+RowsBefore bs (row ∷ rows) rest = (more : List ℕ) × (0 < length bs) × Row bs row more × RowsBefore more rows rest
+
+-- a line of a text is its first at fault: the rows before it say lines that the table takes, and its own row has this fault
+pub record FirstFault (text : List ℕ) (line : ℕ) (what : Malformed) : Type 0 where
+  pub before : List (List ℕ)
+  pub rest : List ℕ
+  pub cut : RowsBefore text before rest
+  pub number : line ≡ length before + 1
+  pub lines : List Numbered
+  pub say : RowsSay 1 before lines
+  pub table : Table
+  pub puts : after_lines empty_table lines ≡ Some table
+  pub some : 0 < length rest
+  pub row : List ℕ
+  pub more : List ℕ
+  pub here : Row rest row more
+  pub fault : Fault row table what
+
+-- a malformed line is one of the text's, and its first at fault
 abbrev pub Placed : List ℕ → Unread → Type 0
-Placed text (Malformed line what) = LineOf text line
+Placed text (MalformedAt line what) = LineOf text line × FirstFault text line what
 Placed text Memory = Unit {0}
 
 -- a row leaves a table as it is and says nothing, or says a line that makes another table of it

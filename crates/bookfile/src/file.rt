@@ -1,6 +1,7 @@
 // A book file as a whole: its tariff table, its management rule, its opening and its calls, or its first malformed line.
 ghost use Rattle.std.specs.Prelude.{◌≡◌, ◌++◌, length, IfOk, IfErr, MatchResult, OnOk};
 ghost use Rattle.bookfile.specs.declared.file.Unread.TheVariants.{Memory};
+ghost use Rattle.bookfile.specs.Faults.{Fault};
 ghost use Rattle.bookfile.specs.Files.{Says, Placed, Step, line_filings, line_calls};
 
 use crate::call::call_of;
@@ -97,7 +98,8 @@ pub fn read(heap: Global, text: &str) -> Result<BookFile, Unread>
 
 // Reads a line: what it says of the tariff table, the management rule and the opening goes into the table.
 fn read_line(table: &mut Table, row: &str) -> Result<Option<Line>, Malformed>
-    ensures { IfOk result (Step row.now table.old table.new) }
+    ensures ok { IfOk result (Step row.now table.old table.new) }
+    ensures err { IfErr result (Fault row.now table.old) }
 {
     let Some(line) = Line::read(row)? else {
         return Ok(None);

@@ -1,9 +1,10 @@
-use Rattle.std.proofs.Common.{◌≡◌, ◌+◌, ◌++◌, length, Ok, vec_items, ap, ◌∙◌, rules}
-use Rattle.std.proofs.lemmas.Result.{err_from_is_err_and, IfOk-at_ok}
+use Rattle.std.proofs.Common.{◌≡◌, ◌+◌, ◌++◌, length, Ok, vec_items, sym, ap, subst, ◌∙◌, rules}
+use Rattle.std.proofs.lemmas.Result.{err_from_is_err_and, IfErr-at_err, IfOk-at_ok}
 use Rattle.std.specs.Str.Iter.{lines_rest}
+use Rattle.bookfile.specs.declared.file.Unread.TheVariants.{Malformed}
+use Rattle.bookfile.specs.Faults.{Fault}
 use Rattle.bookfile.specs.Files.{Placed, Step, line_calls}
-use Rattle.bookfile.proofs.LineCounts.{line_count_more}
-use Rattle.bookfile.proofs.SoFar.{at_start, at_end, silent_more, said_more}
+use Rattle.bookfile.proofs.SoFar.{named, first_fault, at_start, at_end, silent_more, said_more}
 use Rattle.bookfile.proofs.file.read.Goals as goal
 
 pub loop-i-init : goal.loop-i-init
@@ -17,23 +18,25 @@ pub returns-in_err-said : goal.returns-in_err-said
 returns-in_err-said c =
     let p = err_from_is_err_and c.from_residual.result c.from_residual.ensures.1 in
     let item = c.in-Some.ensures.steps in
-    let less = line_count_more (lines_rest c.loop-i.i-iterator.iter) c.in-Some.row.now (lines_rest c.next.new.self.iter) item.0.0 in
-    let placed : Placed c.args.text.now c.in_err-said.field-0.0 = search rules in
-    rw p.1 (rw p.2 placed)
+    let line = c.in-Some.i + 1 in
+    let told = named c.read_line.result c.map_err.result c.in_err-said.field-0.0 line (λ what u made. search rules) c.map_err.ensures.cases c.in_err-said.was in
+    let fault = IfErr-at_err (Fault c.in-Some.row.now c.loop-i.table) told.1 c.read_line.ensures.err in
+    let placed = first_fault c.loop-i.invariant c.in-Some.row.now (lines_rest c.next.new.self.iter) item.0.0 told.0 fault in
+    rw (p.1, p.2, told.2) (subst (λ n. Placed c.args.text.now (Malformed n told.0)) (ap (λ n. n + 1) (sym item.1)) placed)
 
 pub loop-i-preserved : goal.loop-i-preserved
 loop-i-preserved c =
     let item = c.in-Some.ensures.steps in
     let was : c.read_line.result ≡ Ok c.in_ok-said.said = search rules in
     rw item.2
-    (silent_more c.loop-i.invariant c.in-Some.row.now (lines_rest c.next.new.self.iter) item.0.0 c.read_line.new.table c.in_ok-said.said c.in_default.not-Some (IfOk-at_ok (Step c.in-Some.row.now c.loop-i.table c.read_line.new.table) was c.read_line.ensures))
+    (silent_more c.loop-i.invariant c.in-Some.row.now (lines_rest c.next.new.self.iter) item.0.0 c.read_line.new.table c.in_ok-said.said c.in_default.not-Some (IfOk-at_ok (Step c.in-Some.row.now c.loop-i.table c.read_line.new.table) was c.read_line.ensures.ok))
 
 pub loop-i-preserved-in-Continue-branch-2 : goal.loop-i-preserved-in-Continue-branch-2
 loop-i-preserved-in-Continue-branch-2 c =
     let item = c.in-Some.ensures.steps in
     let was : c.read_line.result ≡ Ok c.in_ok-said.said = search rules in
     rw item.2
-    (said_more c.loop-i.invariant c.in-Some.row.now (lines_rest c.next.new.self.iter) item.0.0 c.read_line.new.table c.in_ok-said.said c.in-Some-said.said (vec_items c.list_line.new.filings) (vec_items c.list_line.new.calls) c.in-Some-said.is (IfOk-at_ok (Step c.in-Some.row.now c.loop-i.table c.read_line.new.table) was c.read_line.ensures) c.in_ok-list_line.ensures.filings
+    (said_more c.loop-i.invariant c.in-Some.row.now (lines_rest c.next.new.self.iter) item.0.0 c.read_line.new.table c.in_ok-said.said c.in-Some-said.said (vec_items c.list_line.new.filings) (vec_items c.list_line.new.calls) c.in-Some-said.is (IfOk-at_ok (Step c.in-Some.row.now c.loop-i.table c.read_line.new.table) was c.read_line.ensures.ok) c.in_ok-list_line.ensures.filings
     (c.in_ok-list_line.ensures.calls ∙ ap (λ i. vec_items c.loop-i.calls ++ line_calls (length (vec_items c.loop-i.filings)) (record { number = i + 1; line = c.in-Some-said.said })) item.1))
 
 pub returns : goal.returns
