@@ -3,3 +3,6 @@ mod Filling
 mod LineCounts
 mod SoFar
 mod Figuring
+mod Cutting
+mod Apart
+mod Firsts

@@ -74,6 +74,7 @@ figure_fault f (Some z) = Number f
 -- the first figure of a statement that may not be so
 pub record BadFigure (s : Statement) (zs : List (Option ℤ)) (what : Malformed) : Type 0 where
   pub place : ℕ
+  pub within : place < 46
   pub before : (k : ℕ) → k < place → allowed s k (slice_index_or zs k None) ≡ true
   pub here : allowed s place (slice_index_or zs place None) ≡ false
   pub is : what ≡ figure_fault (field s place) (slice_index_or zs place None)

@@ -4,6 +4,7 @@
 pub mod call;
 pub mod file;
 mod filing;
+pub mod laws;
 mod line;
 pub mod malformed;
 pub mod naming;
