@@ -11,9 +11,9 @@ use Rattle.bookfile.specs.declared.malformed.Malformed.TheVariants.{Keyword, Wor
 use Rattle.bookfile.specs.declared.statement.Statement.{Statement}
 use Rattle.bookfile.specs.declared.statement.Statement.TheVariants.{Tariff, Distribution, Metering, Bracket, Coefficient, Life, Management, Opening, Journal, Register, File, Enrol, Bill, Draw, Cancel, Send, Confirm, Bounce, Close, Reopen, Cost, Component, Served, Revenue, Balance, Account}
 use Rattle.bookfile.specs.declared.table.Table.{Table}
-use Rattle.bookfile.specs.Faults.{Spells, WordFault, BadWord, Misread, Untaken, Fault}
+use Rattle.bookfile.specs.Faults.{NoKeyword, Spells, WordFault, BadWord, Misread, Untaken, Fault}
 use Rattle.bookfile.specs.Files.{after_line, Step}
-use Rattle.bookfile.specs.Grammar.{keyword_of, names_of, Plain, First, Words, Gives, Filled, Silent, Speaks}
+use Rattle.bookfile.specs.Grammar.{Before, keyword_of, names_of, Plain, First, Words, Gives, Filled, Silent, Speaks}
 use Rattle.bookfile.specs.Slots.{and_then, placed_all}
 use Rattle.bookfile.specs.Syntax.{allowed, Good}
 use Rattle.bookfile.specs.Tables.{next_bracket, span_of, table_after}
@@ -58,7 +58,7 @@ found Revenue = refl
 found Balance = refl
 found Account = refl
 
-keyword_same : (s t : Statement) → keyword_of s ≡ keyword_of t → s ≡ t
+pub keyword_same : (s t : Statement) → keyword_of s ≡ keyword_of t → s ≡ t
 keyword_same s t e = let same : Some s ≡ Some t = sym (found s) ∙ ap (λ w. keyword_at w statements) e ∙ found t in cc
 
 -- the names of a statement have no equals sign, and differ
@@ -165,11 +165,15 @@ differ_at (n ∷ ns) h zero (suc j) a b e = let gone : absent n ns ≡ true = gr
 differ_at (n ∷ ns) h (suc i) zero a b e = let gone : absent n ns ≡ true = grind (arith, nat_tests) in absurd (absent_at n ns gone i (omega arith) (sym e))
 differ_at (n ∷ ns) h (suc i) (suc j) a b e = let rest : differ ns ≡ true = grind (arith, nat_tests) in ap suc (differ_at ns rest i j (omega arith) (omega arith) e)
 
-name_clear : (s : Statement) (i : ℕ) → i < length (names_of s) → (k : ℕ) → k < length (get_or (names_of s) i []) → slice_index (get_or (names_of s) i []) k ≢ 61
+pub name_clear : (s : Statement) (i : ℕ) → i < length (names_of s) → (k : ℕ) → k < length (get_or (names_of s) i []) → slice_index (get_or (names_of s) i []) k ≢ 61
 name_clear s i low = clear_at (get_or (names_of s) i []) (all_clear_at (names_of s) (names_clear s) i low)
 
--- a word gives one figure
-gives_same : (s : Statement) (w : List ℕ) (i j : ℕ) (z y : ℤ) → Gives s w i z → Gives s w j y → (i ≡ j) × (z ≡ y)
+-- a word names one figure, and gives one
+pub spelt_same : (s : Statement) (w : List ℕ) (i j : ℕ) (m n : List ℕ) → Spells s w i m → Spells s w j n → i ≡ j
+spelt_same s w i j m n a b =
+    differ_at (names_of s) (names_differ s) i j a.place b.place (equals_same (get_or (names_of s) i []) (get_or (names_of s) j []) m n (name_clear s i a.place) (name_clear s j b.place) (sym a.cut ∙ b.cut)).0
+
+pub gives_same : (s : Statement) (w : List ℕ) (i j : ℕ) (z y : ℤ) → Gives s w i z → Gives s w j y → (i ≡ j) × (z ≡ y)
 gives_same s w i j z y g h =
     let k = equals_same (get_or (names_of s) i []) (get_or (names_of s) j []) g.numeral h.numeral (name_clear s i g.place) (name_clear s j h.place) (sym g.cut ∙ h.cut) in
     (differ_at (names_of s) (names_differ s) i j g.place h.place k.0, g.value ∙ ap (λ n. signed_digits_value 10 n) k.1 ∙ sym h.value)
@@ -184,7 +188,7 @@ seam [] ys c = refl
 seam (x ∷ xs) ys c = seam xs ys c
 
 -- a word that gives a figure which is not given before is not at fault
-word_apart : (s : Statement) (given : List (Option ℤ)) (w : List ℕ) (what : Malformed) (i : ℕ) (z : ℤ) → WordFault s given w what → Gives s w i z → get_or given i None ≡ None → ⊥
+pub word_apart : (s : Statement) (given : List (Option ℤ)) (w : List ℕ) (what : Malformed) (i : ℕ) (z : ℤ) → WordFault s given w what → Gives s w i z → get_or given i None ≡ None → ⊥
 word_apart s given w Word i z fault g free =
     let name = get_or (names_of s) i [] in
     fault (length name) (omega (arith, ap length g.cut, length-append name (61 ∷ g.numeral))) (ap (λ l. slice_index l (length name)) g.cut ∙ seam name g.numeral 61)
@@ -230,14 +234,20 @@ pub silent_speaks : (row : List ℕ) (s : Statement) (zs : List (Option ℤ)) �
 silent_speaks row s zs (text, before, none) (other, ws, back, (rest, first, words), filled) =
     first_some other (keyword_of s) rest first (subst (λ b. Words b []) (before_same row text other before back) none)
 
-misread_speaks : (row : List ℕ) (what : Malformed) (s : Statement) (zs : List (Option ℤ)) → Misread row what → Speaks row s zs → Good s zs → ⊥
-misread_speaks row what s zs (inl n) (other, ws, back, (rest, first, words), filled) good =
-    let same = before_same row n.text other n.before back in
-    n.none s (first_same n.text n.word (keyword_of s) n.rest rest n.first (subst (λ b. First b (keyword_of s) rest) (sym same) first)).0
-misread_speaks row what s zs (inr (t, inl (text, rest, before, first, bad))) (other, ws, back, (next, head, words), filled) good =
+-- a row that says a line begins with a keyword, and has no word at fault
+pub no_keyword : (row text rest : List ℕ) (s : Statement) (what : Malformed) → NoKeyword row what → Before row text → First text (keyword_of s) rest → ⊥
+no_keyword row text rest s what n before first =
+    n.none s (first_same n.text n.word (keyword_of s) n.rest rest n.first (subst (λ b. First b (keyword_of s) rest) (before_same row text n.text before n.before) first)).0
+
+pub word_speaks : (row text rest : List ℕ) (t s : Statement) (zs : List (Option ℤ)) (what : Malformed) → Before row text → First text (keyword_of t) rest → BadWord t rest what → Speaks row s zs → ⊥
+word_speaks row text rest t s zs what before first bad (other, ws, back, (next, head, words), filled) =
     let same = before_same row text other before back in
     let k = first_same text (keyword_of t) (keyword_of s) rest next first (subst (λ b. First b (keyword_of s) next) (sym same) head) in
     bad_word t rest what ws zs bad (subst (λ b. Words b ws) (sym k.1) words) (subst (λ u. Filled u ws (replicate 46 None) zs) (sym (keyword_same t s k.0)) filled)
+
+pub misread_speaks : (row : List ℕ) (what : Malformed) (s : Statement) (zs : List (Option ℤ)) → Misread row what → Speaks row s zs → Good s zs → ⊥
+misread_speaks row what s zs (inl n) (text, ws, before, (rest, first, words), filled) good = no_keyword row text rest s what n before first
+misread_speaks row what s zs (inr (t, inl (text, rest, before, first, bad))) speaks good = word_speaks row text rest t s zs what before first bad speaks
 misread_speaks row what s zs (inr (t, inr (ys, says, bad))) speaks good =
     let same = speaks_same row t s ys zs says speaks in
     true≢false (sym (good bad.place bad.within) ∙ (λ k. allowed (sym same.0 k) bad.place (get_or (sym same.1 k) bad.place None)) ∙ bad.here)
@@ -247,10 +257,10 @@ misread_silent row what (inl n) (text, before, none) = first_some n.text n.word 
 misread_silent row what (inr (t, inl (other, rest, back, first, bad))) (text, before, none) = first_some other (keyword_of t) rest first (subst (λ b. Words b []) (before_same row text other before back) none)
 misread_silent row what (inr (t, inr (zs, says, bad))) silent = silent_speaks row t zs silent says
 
-no_bracket : (k : ℕ) → 8 ≤ k → next_bracket k ≡ None
+pub no_bracket : (k : ℕ) → 8 ≤ k → next_bracket k ≡ None
 no_bracket k full = grind (arith, nat_tests)
 
-none_some : {X : Type 0} (o : Option X) (x : X) → o ≡ None → o ≡ Some x → ⊥
+pub none_some : {X : Type 0} (o : Option X) (x : X) → o ≡ None → o ≡ Some x → ⊥
 none_some o x e h = absurd (cc)
 
 untaken : (line : Line) (t u : Table) (what : Malformed) → Untaken line t what → after_line t line ≡ Some u → ⊥

@@ -17,6 +17,7 @@ use Rattle.bookfile.specs.Files.{Numbered, RowsBefore, Rows, RowSays, RowsSay, F
 use Rattle.bookfile.specs.Grammar.{Silent}
 use Rattle.bookfile.specs.Slots.{and_then}
 use Rattle.bookfile.specs.Tables.{empty_table, table_after}
+use Rattle.bookfile.proofs.Alone.{fault_one}
 use Rattle.bookfile.proofs.Apart.{seam, fault_apart, silent_speaks, speaks_same}
 use Rattle.bookfile.proofs.Cutting.{begins, span_same}
 
@@ -139,5 +140,41 @@ one_line text line other what reason f g =
     let ge = no_further text g.before g.rest f.before f.rest 1 g.lines f.lines empty_table g.table f.table g.row g.more reason g.cut g.say g.puts g.here g.fault f.cut f.say f.puts in
     omega (arith, le, ge, f.number, g.number)
 
+-- as many rows that are said leave one rest and one table
+end_same : (bs : List ℕ) (before : List (List ℕ)) (rest : List ℕ) (rows : List (List ℕ)) (end : List ℕ) (n : ℕ) (lines all : List Numbered) (t table last : Table) → RowsBefore bs before rest → RowsSay n before lines → after_lines t lines ≡ Some table → RowsBefore bs rows end → RowsSay n rows all → after_lines t all ≡ Some last → length before ≡ length rows → (rest ≡ end) × (table ≡ last)
+end_same bs [] rest [] end n lines all t table last cut say puts whole told after long = (
+  cut ∙ sym whole,
+  some_same (Some t) table last (ap (λ xs. after_lines t xs) (sym say) ∙ puts) (ap (λ xs. after_lines t xs) (sym told) ∙ after),
+)
+end_same bs [] rest (r ∷ rs) end n lines all t table last cut say puts whole told after long = absurd (omega (arith, long))
+end_same bs (b ∷ before) rest [] end n lines all t table last cut say puts whole told after long = absurd (omega (arith, long))
+end_same bs (b ∷ before) rest (r ∷ rs) end n lines all t table last (next, some, head, cut) (inl (silent, say)) puts (left, full, first, whole) (inl (quiet, told)) after long =
+    let same = row_same bs b r next left head first in
+    let rows = subst (λ x. RowsBefore x rs end) (sym same.1) whole in
+    end_same next before rest rs end (n + 1) lines all t table last cut say puts rows told after (omega (arith, long))
+end_same bs (b ∷ before) rest (r ∷ rs) end n lines all t table last (next, some, head, cut) (inl (silent, say)) puts (left, full, first, whole) (inr (line, ys, says, is, told)) after long =
+    let same = row_same bs b r next left head first in
+    absurd (silent_speaks b line.statement line.figures silent (subst (λ x. RowSays x line) (sym same.0) says))
+end_same bs (b ∷ before) rest (r ∷ rs) end n lines all t table last (next, some, head, cut) (inr (line, xs, says, is, say)) puts (left, full, first, whole) (inl (quiet, told)) after long =
+    let same = row_same bs b r next left head first in
+    absurd (silent_speaks b line.statement line.figures (subst Silent (sym same.0) quiet) says)
+end_same bs (b ∷ before) rest (r ∷ rs) end n lines all t table last (next, some, head, cut) (inr (line, xs, says, is, say)) puts (left, full, first, whole) (inr (other, ys, tells, are, told)) after long =
+    let same = row_same bs b r next left head first in
+    let rows = subst (λ x. RowsBefore x rs end) (sym same.1) whole in
+    let j = first_of_two (after_line t line) (λ u. after_lines u xs) table (ap (λ l. after_lines t l) (sym is) ∙ puts) in
+    let k = first_of_two (after_line t other) (λ u. after_lines u ys) last (ap (λ l. after_lines t l) (sym are) ∙ after) in
+    let one = step_same b t j.0 k.0 line other says (subst (λ x. RowSays x other) (sym same.0) tells) j.1 k.1 in
+    end_same next before rest rs end (n + 1) xs ys j.0 table last cut say j.2 rows told (subst (λ u. after_lines u ys ≡ Some last) (sym one) k.2) (omega (arith, long))
+
+one_fault : (text : List ℕ) (line other : ℕ) (what reason : Malformed) → FirstFault text line what → FirstFault text other reason → what ≡ reason
+one_fault text line other what reason f g =
+    let at = one_line text line other what reason f g in
+    let same = end_same text f.before f.rest g.before g.rest 1 f.lines g.lines empty_table f.table g.table f.cut f.say f.puts g.cut g.say g.puts (omega (arith, at, f.number, g.number)) in
+    let row = row_same f.rest f.row g.row f.more g.more f.here (subst (λ b. Row b g.row g.more) (sym same.0) g.here) in
+    fault_one f.row f.table what reason f.fault (subst (λ u. Fault f.row u reason) (sym same.1) (subst (λ r. Fault r g.table reason) (sym row.0) g.fault))
+
 pub fault_law : FaultLaw
-fault_law text line what f = (λ book says. no_book text line what book f says, λ other reason g. one_line text line other what reason f g)
+fault_law text line what f = (
+  λ book says. no_book text line what book f says,
+  λ other reason g. (one_line text line other what reason f g, one_fault text line other what reason f g),
+)

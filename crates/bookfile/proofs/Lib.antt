@@ -5,4 +5,5 @@ mod SoFar
 mod Figuring
 mod Cutting
 mod Apart
+mod Alone
 mod Firsts

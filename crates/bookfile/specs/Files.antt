@@ -137,8 +137,8 @@ abbrev pub Step : List ℕ → Table → Table → Option Line → Type 0
 Step row t u None = Silent row × (u ≡ t)
 Step row t u (Some line) = RowSays row line × (after_line t line ≡ Some u)
 
--- a text has one first line at fault, and then it is no book file
+-- a text has one first line at fault, which has one fault, and then it is no book file
 abbrev pub FaultLaw : Type 0
 FaultLaw =
     (text : List ℕ) (line : ℕ) (what : Malformed) → FirstFault text line what →
-    ((book : BookFile) → Says text book → ⊥) × ((other : ℕ) (reason : Malformed) → FirstFault text other reason → line ≡ other)
+    ((book : BookFile) → Says text book → ⊥) × ((other : ℕ) (reason : Malformed) → FirstFault text other reason → (line ≡ other) × (what ≡ reason))
