@@ -1,6 +1,8 @@
 // Lines that tell what calls of a book were answered.
 #![tactic(auto)]
 
+ghost use Rattle.std.specs.Prelude.{◌≡◌, Ok, OnErr};
+
 use std::fmt::Display;
 use std::io;
 use units::refusal::Refusal;
@@ -8,13 +10,15 @@ use units::refusal::Refusal;
 /// A call: what stands before its line, what is asked, and of which place.
 #[derive(Clone, Copy, Debug)]
 pub struct Call<'a> {
-    at: &'a str,
-    what: &'a str,
-    place: u64,
+    pub at: &'a str,
+    pub what: &'a str,
+    pub place: u64,
 }
 
 impl<'a> Call<'a> {
-    pub fn new(at: &'a str, what: &'a str, place: u64) -> Call<'a> {
+    pub fn new(at: &'a str, what: &'a str, place: u64) -> Call<'a>
+        ensures { (result.at.now ≡ at.now) × (result.what.now ≡ what.now) × (result.place ≡ place) }
+    {
         Call { at, what, place }
     }
 }
@@ -23,18 +27,22 @@ impl<'a> Call<'a> {
 #[derive(Drop)]
 pub struct Lines<'a> {
     rt: &'a HostRuntime,
-    printed: io::Result<()>,
+    pub printed: io::Result<()>,
 }
 
 impl<'a> Lines<'a> {
-    pub fn new(rt: &'a HostRuntime) -> Lines<'a> {
+    pub fn new(rt: &'a HostRuntime) -> Lines<'a>
+        ensures { result.printed ≡ Ok tt }
+    {
         Lines {
             rt,
             printed: Ok(()),
         }
     }
 
-    fn print<A: Display + Drop>(&mut self, call: Call<'_>, answer: A) {
+    fn print<A: Display + Drop>(&mut self, call: Call<'_>, answer: A)
+        ensures first { OnErr self.old.printed (self.new.printed ≡ self.old.printed) }
+    {
         if self.printed.is_ok() {
             let Call { at, what, place } = call;
             self.printed = println!(self.rt; "{at}{what} {place}: {answer}");
@@ -42,17 +50,23 @@ impl<'a> Lines<'a> {
     }
 
     /// Tells a figure.
-    pub fn figure<F: Display + Drop>(&mut self, call: Call<'_>, name: &str, figure: F) {
+    pub fn figure<F: Display + Drop>(&mut self, call: Call<'_>, name: &str, figure: F)
+        ensures first { OnErr self.old.printed (self.new.printed ≡ self.old.printed) }
+    {
         self.print(call, format_args!("{name} {figure}"));
     }
 
     /// Tells that a call is granted, with its main figure.
-    pub fn granted<F: Display + Drop>(&mut self, call: Call<'_>, name: &str, figure: F) {
+    pub fn granted<F: Display + Drop>(&mut self, call: Call<'_>, name: &str, figure: F)
+        ensures first { OnErr self.old.printed (self.new.printed ≡ self.old.printed) }
+    {
         self.print(call, format_args!("granted, {name} {figure}"));
     }
 
     /// Tells that a call is refused.
-    pub fn refused(&mut self, call: Call<'_>, refusal: Refusal) {
+    pub fn refused(&mut self, call: Call<'_>, refusal: Refusal)
+        ensures first { OnErr self.old.printed (self.new.printed ≡ self.old.printed) }
+    {
         self.print(
             call,
             format_args!(
@@ -70,7 +84,9 @@ impl<'a> Lines<'a> {
         call: Call<'_>,
         name: &str,
         answer: Result<F, Refusal>,
-    ) {
+    )
+        ensures first { OnErr self.old.printed (self.new.printed ≡ self.old.printed) }
+    {
         match answer {
             Ok(figure) => self.granted(call, name, figure),
             Err(refusal) => self.refused(call, refusal),
@@ -78,7 +94,10 @@ impl<'a> Lines<'a> {
     }
 
     /// The first error of printing.
-    pub fn finish(self) -> io::Result<()> {
-        self.printed
+    pub fn finish(self) -> io::Result<()>
+        ensures { result ≡ self.entry.printed }
+    {
+        let Lines { rt: _, printed } = self;
+        printed
     }
 }

@@ -1,6 +1,10 @@
 // The worked year's tariff table, terms and locality, for programs that run a year.
 #![tactic(auto)]
 
+ghost use Rattle.std.specs.Prelude.{◌≡◌, Ok};
+ghost use Rattle.limits.specs.Checked.{made_of};
+ghost use Rattle.sample.specs.Year.{bracket, worked_table, worked_figures, worked_locality};
+
 use company::figures::TermsFigures;
 use tables::rows::{AssetRow, LocalityRow};
 use tariff::figures::{Bracket, Coefficient, Life, Rate, TariffFigures};
@@ -8,44 +12,68 @@ use tariff::table::Tariff;
 use units::amounts::{PointPrice, VolumePrice};
 use units::refusal::Refusal;
 
-pub fn tariff() -> Result<Tariff, Refusal> {
-    Tariff::try_from(TariffFigures {
+/// No limit is broken.
+#[tactic(auto, using(crate::proofs::Lawful::lawful))]
+pub fn tariff() -> Result<Tariff, Refusal>
+    ensures { made_of (λ t. t.figures) result ≡ Ok worked_table }
+{
+    Tariff::try_from(table())
+}
+
+fn table() -> TariffFigures
+    ensures { result ≡ worked_table }
+{
+    TariffFigures {
         days: 365,
         distribution: [PointPrice(36_500_000); 24],
         metering: [PointPrice(18_250_000); 24],
         commercial: PointPrice(1_825_000),
         count: 3,
-        brackets: brackets(),
+        brackets: [
+            bracket(120, 0),
+            bracket(480, 8_000_000),
+            bracket(1_000_000_000, 5_000_000),
+            bracket(0, 0),
+            bracket(0, 0),
+            bracket(0, 0),
+            bracket(0, 0),
+            bracket(0, 0),
+        ],
         coefficients: [Coefficient(1_000_000); 8],
         gs: VolumePrice(100_000),
         ug1: VolumePrice(40_000),
         rate: Rate(560),
-        lives: [0, 0, 20, 0, 0, 15, 0, 0].map(Life),
+        lives: [
+            Life(0),
+            Life(0),
+            Life(20),
+            Life(0),
+            Life(0),
+            Life(15),
+            Life(0),
+            Life(0),
+        ],
         cou: PointPrice(1_500_000),
         coa: PointPrice(500_000),
         telcon: PointPrice(3_000_000),
         avv: PointPrice(4_000_000),
         ins: PointPrice(3_000_000),
         rac: PointPrice(2_000_000),
-    })
+    }
 }
 
-fn bracket(end: u64, price: u64) -> Bracket {
+fn bracket(end: u64, price: u64) -> Bracket
+    ensures { result ≡ bracket end price }
+{
     Bracket {
         end,
         reference: VolumePrice(price),
     }
 }
 
-fn brackets() -> [Bracket; 8] {
-    let mut brackets = [bracket(0, 0); 8];
-    brackets[0] = bracket(120, 0);
-    brackets[1] = bracket(480, 8_000_000);
-    brackets[2] = bracket(1_000_000_000, 5_000_000);
-    brackets
-}
-
-pub fn terms() -> TermsFigures {
+pub fn terms() -> TermsFigures
+    ensures { result ≡ worked_figures }
+{
     TermsFigures {
         advance: 100_000,
         instalments: 3,
@@ -58,7 +86,9 @@ pub fn terms() -> TermsFigures {
 }
 
 /// In regime, in area 1, of company 0.
-pub fn locality() -> LocalityRow {
+pub fn locality() -> LocalityRow
+    ensures { result ≡ worked_locality }
+{
     let mut row = LocalityRow {
         company: 0,
         state: 1,

@@ -14,7 +14,7 @@ use Rattle.book.specs.Tables.{written, billed_row}
 use Rattle.book.specs.Companies.{moved}
 use Rattle.book.specs.Rows.{billing, bill_of, billed_by}
 use Rattle.book.specs.Closings.{closing, closed_by, reopening}
-use Rattle.worked.specs.Year.{worked_table, worked_locality, worked_point}
+use Rattle.sample.specs.Year.{worked_table, worked_figures, worked_locality, worked_point}
 
 unfoldable pub worked_tariff : Tariff
 unfolding fixed_tests variable_tests cost_tests first_bad_figure
@@ -24,7 +24,7 @@ unfoldable pub worked_terms : Terms
 unfolding payment_tests trait_tests first_bad_term
 worked_terms =
     record {
-      figures = record { advance = pos 100000; instalments = 3; verification = 0; central = 1000; points = 100; density = 1; year = 1 };
+      figures = worked_figures;
       lawful = refl;
     }
 

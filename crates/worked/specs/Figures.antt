@@ -13,7 +13,7 @@ use Rattle.company.specs.Instalments.{instalment}
 use Rattle.book.specs.Closings.{closing, balance_of}
 use Rattle.book.specs.Questions.{account}
 use Rattle.worked.specs.Closings.{worked_localities, before_closing, points_before, closed_once, corrected, points_after, closed_again}
-use Rattle.worked.specs.Year.{worked_table, worked_supply, worked_locality, worked_point}
+use Rattle.sample.specs.Year.{worked_table, worked_supply, worked_locality, worked_point}
 
 abbrev at_start : Amounts
 at_start = amounts_of worked_table worked_supply 0 0

@@ -1,3 +1,2 @@
-pub mod Year
 pub mod Closings
 pub mod Figures

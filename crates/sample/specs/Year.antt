@@ -1,5 +1,5 @@
--- What tariff table the worked year has, what locality and what delivery point.
-use Rattle.std.specs.Prelude.{ℕ, false, [], ◌∷◌, replicate}
+-- What tariff table the worked year has, what its company registers, what locality and what delivery point it has.
+use Rattle.std.specs.Prelude.{ℕ, false, [], ◌∷◌, pos, replicate}
 use Rattle.std.proofs.Common.{lit≤}
 use Rattle.units.specs.declared.amounts.PointPrice.{PointPrice}
 use Rattle.units.specs.declared.amounts.VolumePrice.{VolumePrice}
@@ -7,6 +7,7 @@ use Rattle.tariff.specs.declared.figures.Bracket.{Bracket}
 use Rattle.tariff.specs.declared.figures.Life.{Life}
 use Rattle.tariff.specs.declared.figures.TariffFigures.{TariffFigures}
 use Rattle.tariff.specs.declared.supply.Supply.{Supply}
+use Rattle.company.specs.declared.figures.TermsFigures.{TermsFigures}
 use Rattle.tables.specs.declared.rows.AssetRow.{AssetRow}
 use Rattle.tables.specs.declared.rows.LocalityRow.{LocalityRow}
 use Rattle.tables.specs.declared.rows.PointRow.{PointRow}
@@ -45,6 +46,10 @@ worked_table =
       ins = point_price 3000000;
       rac = point_price 2000000;
     }
+
+-- a yearly advance in three instalments, no verification cost, a central cost of 1,000, and 100 points for class
+abbrev pub worked_figures : TermsFigures
+worked_figures = record { advance = pos 100000; instalments = 3; verification = 0; central = 1000; points = 100; density = 1; year = 1 }
 
 -- area 1, class 1, not domestic
 abbrev pub worked_supply : Supply
