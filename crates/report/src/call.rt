@@ -1,4 +1,7 @@
 // What a call is about, in print, and the statement that makes it.
+ghost use Rattle.calls.specs.declared.call.Call.TheVariants.{Ask};
+ghost use Rattle.report.specs.Makers.{OnlyMaker};
+
 use bookfile::statement::Statement;
 use calls::call::{Call, Order, Question};
 use std::fmt;
@@ -67,7 +70,10 @@ fn name(service: Service) -> &'static str {
 
 impl About {
     /// The statement that makes such a call.
-    pub(crate) fn statement(self) -> Statement {
+    #[tactic(auto, using(crate::proofs::Making::only_maker))]
+    pub(crate) fn statement(self) -> Statement
+        ensures { OnlyMaker self.0 result }
+    {
         match self.0 {
             Call::Register { .. } => Statement::Register,
             Call::File { .. } => Statement::File,
@@ -85,7 +91,10 @@ impl About {
     }
 }
 
-fn statement_of(question: Question) -> Statement {
+#[tactic(auto, using(crate::proofs::Making::only_maker))]
+fn statement_of(question: Question) -> Statement
+    ensures { OnlyMaker (Ask question) result }
+{
     match question {
         Question::CapitalCost { .. } => Statement::Cost,
         Question::UnitComponent { .. } => Statement::Component,

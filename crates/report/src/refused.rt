@@ -1,4 +1,7 @@
 // A refusal of a statement, in print.
+ghost use Rattle.std.specs.Prelude.{◌≡◌};
+ghost use Rattle.report.specs.Places.{place_of};
+
 use bookfile::statement::{Field, Statement};
 use std::fmt;
 use units::refusal::{Reason, Refusal};
@@ -13,7 +16,10 @@ pub struct Refused {
 impl Refused {
     // The figure with the refusal's number. It is counted from 1 without the places that a statement names before its figures: none in an
     // opening, two in a filing and an enrolling, and else one.
-    fn field(&self) -> Field {
+    fn field(&self) -> Field
+        ensures statement { result.statement ≡ self.now.statement }
+        ensures place { result.place ≡ place_of self.now.statement self.now.refusal.place }
+    {
         let figure = self.refusal.place;
         let place = match self.statement {
             Statement::Opening => figure.saturating_sub(1),

@@ -1,4 +1,9 @@
 // What a year comes to, in print: the costs of each locality, and the revenue that is recognised to each company.
+ghost use Rattle.std.specs.Prelude.{◌≡◌, map, Ok, IfOk, is_ok};
+ghost use Rattle.book.specs.States.{state};
+ghost use Rattle.book.specs.Questions as asked;
+ghost use Rattle.report.specs.Listed.{parts_listed};
+
 use crate::answer::state_words;
 use book::book::Book;
 use company::record::{Company, Phase};
@@ -72,7 +77,14 @@ impl CompanyYear {
         localities: &[LocalityRow],
         points: &[PointRow],
         place: u64,
-    ) -> Result<CompanyYear, Refusal> {
+    ) -> Result<CompanyYear, Refusal>
+        ensures test { is_ok result ≡ is_ok (asked.balance_due (state J.Journal M.Management book.now) localities.now points.now place) }
+        ensures company { IfOk result (λ y. asked.company (state J.Journal M.Management book.now) place ≡ Ok y.company) }
+        ensures served { IfOk result (λ y. asked.served (state J.Journal M.Management book.now) localities.now points.now place ≡ Ok (y.served.regime.0, y.served.startup.0)) }
+        ensures revenue { IfOk result (λ y. asked.revenue (state J.Journal M.Management book.now) localities.now points.now place ≡ Ok y.revenue) }
+        ensures billed { IfOk result (λ y. asked.lines_billed (state J.Journal M.Management book.now) localities.now points.now place ≡ Ok y.billed) }
+        ensures due { IfOk result (λ y. asked.balance_due (state J.Journal M.Management book.now) localities.now points.now place ≡ Ok y.due) }
+    {
         Ok(CompanyYear {
             company: book.company(place)?,
             served: book.served(localities, points, place)?,
@@ -154,7 +166,17 @@ pub fn write_account<W: fmt::Write, J: Journal, M: Management>(
 
 /// The parts of recognised revenue, and their sum.
 pub(crate) fn write_revenue<W: fmt::Write>(out: &mut W, revenue: &Revenue) -> fmt::Result {
-    for (name, cents) in [
+    for (name, cents) in parts(revenue) {
+        write_cents(out, name, cents)?;
+    }
+    write_amount(out, "recognised revenue", revenue.total())
+}
+
+// The parts of recognised revenue, each by its name.
+fn parts(revenue: &Revenue) -> [(&'static str, u64); 7]
+    ensures { map (λ p. (p.0.now, p.1)) result ≡ parts_listed revenue.now }
+{
+    [
         ("localities", revenue.localities),
         ("operating", revenue.operating),
         ("start-up", revenue.startup),
@@ -162,10 +184,7 @@ pub(crate) fn write_revenue<W: fmt::Write>(out: &mut W, revenue: &Revenue) -> fm
         ("commercial", revenue.commercial),
         ("verification", revenue.verification),
         ("central cost", revenue.central),
-    ] {
-        write_cents(out, name, cents)?;
-    }
-    write_amount(out, "recognised revenue", revenue.total())
+    ]
 }
 
 fn write_amount<W: fmt::Write>(out: &mut W, name: &str, amount: Cents) -> fmt::Result {
