@@ -1,5 +1,5 @@
 -- What becomes of an order that is sent, and of a book that refuses.
-use Rattle.std.proofs.Common.{◌≡◌, ℕ, zero, suc, ◌<◌, List, [], ◌∷◌, length, get_or, set, Some, None, Ok, Err, Option, Result, IsOk, arith}
+use Rattle.std.proofs.Common.{◌≡◌, ℕ, List, get_or, set, Some, None, Ok, Err, Option, Result, IsOk, arith}
 use Rattle.std.proofs.lemmas.Grind.{common_steps}
 use Rattle.std.proofs.lemmas.List.{get_or-set_same}
 use Rattle.units.specs.declared.amounts.Cents.{Cents}
@@ -11,12 +11,7 @@ use Rattle.book.specs.declared.order.Returned.{Returned}
 use Rattle.book.specs.States.{BookState}
 use Rattle.book.specs.Companies.{sending, bouncing, moved, spends}
 use Rattle.book.specs.Closings.{balance_of, closed_by}
-
--- what stands at a place stands within the table
-within : {A : Type 0} (xs : List (Option A)) (place : ℕ) (a : A) → get_or xs place None ≡ Some a → place < length xs
-within [] place a there = cc
-within (x ∷ xs) zero a there = omega arith
-within (x ∷ xs) (suc place) a there = let ih = within xs place a there in omega arith
+use Rattle.book.proofs.Granted.{within}
 
 replaced : {A : Type 0} (xs : List (Option A)) (place : ℕ) (a b : A) → get_or xs place None ≡ Some a → get_or (set xs place (Some b)) place None ≡ Some b
 replaced xs place a b there = get_or-set_same xs place (Some b) None (within xs place a there)
