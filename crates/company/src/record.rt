@@ -108,7 +108,7 @@ impl Company {
         }
     }
 
-    // Draws the order for the lowest unpaid instalment of a company without an order out.
+    // Draws the order for the instalment after those that are paid, of a company without an order out.
     fn draw(&mut self) -> Result<u8, Reason>
         requires { self.old.phase ≡ Free }
         ensures answer { result ≡ act_answer self.old Draw }

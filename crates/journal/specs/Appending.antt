@@ -5,7 +5,7 @@ use Rattle.units.specs.declared.refusal.Refusal.{Refusal}
 use Rattle.units.specs.Refusals.{refusal}
 use Rattle.journal.specs.declared.entry.Entry.{Entry}
 
--- refused exactly if the list is as long as its room, with its length
+-- 16 with the length where no room is left, and there alone
 abbrev pub append_answer : (room : ℕ) → List Entry → Result Unit Refusal
 append_answer room es = cond (nat_lt (length es) room) (Ok tt) (Err (refusal JournalFull (length es)))
 

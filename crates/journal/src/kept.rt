@@ -1,4 +1,4 @@
-// What a journal is: a list of entries, and a capacity that bounds it and stays.
+// The journal that a book writes: what it holds, and how much it can hold.
 ghost use Rattle.std.specs.Prelude.{◌≡◌, ℕ, ◌≤◌, List, length};
 ghost use Rattle.journal.specs.declared.entry.Entry.{Entry};
 ghost use Rattle.journal.specs.Appending.{append_answer, appended};
@@ -19,7 +19,7 @@ pub trait Journal {
 
     ghost small: { (j : Self) → room j ≤ 1048576 };
 
-    /// Adds an entry at the end, and alters no other; a full journal refuses by 16 with its length, and stays as it is.
+    /// Writes an entry behind the last one, and leaves the rest; where no room is left it does nothing, and refuses by 16 with its length.
     fn append(&mut self, e: Entry) -> Result<(), Refusal>
         ensures answer { result ≡ append_answer (room self.old) (entries self.old) }
         ensures list { entries self.new ≡ appended (room self.old) (entries self.old) e }

@@ -1,4 +1,4 @@
-// A journal over a caller's list: its first 1,048,576 places.
+// A journal in memory that a caller lends; of a longer list it leaves what lies behind place 1,048,575 alone.
 ghost use Rattle.std.specs.Prelude.{◌≡◌, ◌≤◌, min, [], length, take, drop};
 ghost use Rattle.journal.specs.Appending.{append_answer, appended};
 ghost use Rattle.journal.specs.Bounds.{taken_bounded};

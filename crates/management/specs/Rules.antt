@@ -10,7 +10,7 @@ use Rattle.management.specs.Weights.{weights_of, mean}
 abbrev pub municipal_price : List PointPrice → ℕ → ℕ → ℕ
 municipal_price prices points density = price_of prices (size_of points) density
 
--- area-wide: above 300,000 points the large price of the density, otherwise the medium and the large price weighed by award year
+-- area-wide: beyond 300,000 points the large price; up to there a mean of medium and large, by the award year
 abbrev pub area_wide_price : List PointPrice → ℕ → ℕ → ℕ → ℕ
 area_wide_price prices points density year =
     cond (nat_le points 300000)

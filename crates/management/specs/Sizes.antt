@@ -3,7 +3,7 @@ use Rattle.std.specs.Prelude.{ℕ, ◌+◌, ◌-◌, ◌*◌, cond, nat_le}
 use Rattle.management.specs.declared.size.Size.{Size}
 use Rattle.management.specs.declared.size.Size.TheVariants.{Small, Medium, Large}
 
--- by points for class: small up to 50,000, medium up to 300,000, large above
+-- by points for class: 50,000 are still small, and 300,000 still medium
 abbrev pub size_of : ℕ → Size
 size_of points = cond (nat_le points 50000) Small (cond (nat_le points 300000) Medium Large)
 

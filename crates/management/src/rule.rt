@@ -1,12 +1,12 @@
-// What a management rule is.
+// The rules of management, seen from the book.
 ghost use Rattle.std.specs.Prelude.{◌≡◌, ℕ, ◌≤◌};
 
 use crate::traits::Traits;
 use units::amounts::PointPrice;
 
-/// A management rule answers a company's operating point price.
+/// How a company is managed, as far as it decides what operating a point may cost.
 pub trait Management {
-    // The price at points for class, density and award year, in millionths of a euro per point and year: the rule's whole meaning.
+    // The rule's whole meaning: the price at so many points for class, a density and an award year, as a `PointPrice` counts it.
     ghost price: { Self → ℕ → ℕ → ℕ → ℕ };
 
     // No rule answers more than 10^9.

@@ -57,7 +57,7 @@ recognised t price verification central localities points company =
 abbrev pub recognised_revenue : TariffFigures → (price verification central : ℕ) → List LocalityRow → List PointRow → (company : ℕ) → ℕ
 recognised_revenue t price verification central localities points company = total (recognised t price verification central localities points company)
 
--- exact recognised revenue: that sum unrounded, at those served points and prices
+-- exact recognised revenue: nothing that the parts are made of is rounded but the served points, which count as they are told
 unfoldable pub exact_revenue : TariffFigures → (price verification central : ℕ) → List LocalityRow → List PointRow → (company : ℕ) → Frac
 exact_revenue t price verification central localities points company =
     exact_at t price verification central (exact_locality_figures t localities company) (served t localities points company Regime) (served t localities points company StartUp)

@@ -14,7 +14,7 @@ use Rattle.revenue.specs.Owners.{serves_in}
 abbrev pub point_commercial : TariffFigures → PointRow → ℕ
 point_commercial t p = rounded (exact_commercial t p.days)
 
--- line 3 of a company's points in localities of a state
+-- what line 3 comes to over those points of a company whose localities are in a state
 unfoldable pub commercial_cents : TariffFigures → List LocalityRow → List PointRow → (company : ℕ) → State → ℕ
 commercial_cents t localities points company state = sum_if (serves_in localities company state) (point_commercial t) points
 

@@ -1,4 +1,4 @@
--- What an exact value is: a fraction of whole numbers with a denominator of at least 1.
+-- Exact values: fractions, a signed numerator over a denominator from 1 up.
 use Rattle.std.specs.Prelude.{◌≡◌, ℕ, zero, suc, ◌*◌, ◌≤◌, ℤ, pos, ◌+ℤ◌, ◌*ℤ◌, neg_ℤ, ◌≤ℤ◌}
 use Rattle.std.proofs.Common.{zero-le, suc-le-suc, mul-le-mul}
 
@@ -26,10 +26,6 @@ plus x y =
 abbrev pub minus : Frac → Frac
 minus x = record { num = neg_ℤ x.num; den = x.den; some = x.some }
 
--- x is at most y: both sides multiplied by the denominators
-abbrev pub AtMost : Frac → Frac → Type 0
-AtMost x y = (x.num *ℤ pos y.den) ≤ℤ (y.num *ℤ pos x.den)
-
--- x and y are one value: both sides multiplied by the denominators
+-- x and y are two ways to write one value: their cross products agree
 abbrev pub Same : Frac → Frac → Type 0
 Same x y = (x.num *ℤ pos y.den) ≡ (y.num *ℤ pos x.den)

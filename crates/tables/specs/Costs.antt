@@ -13,7 +13,7 @@ use Rattle.tables.specs.declared.rows.LocalityRow.{LocalityRow}
 use Rattle.tables.specs.declared.service.Service.{Service}
 use Rattle.tables.specs.declared.service.Service.TheVariants.{Distribution, Metering}
 
--- rows 1 to 5 are distribution, 6 to 8 metering
+-- the first five asset rows belong to distribution, the last three to metering
 abbrev pub of_service : {X : Type 0} → Service → List X → List X
 of_service Distribution xs = take 5 xs
 of_service Metering xs = take 3 (drop 5 xs)
@@ -55,7 +55,7 @@ abbrev pub exact_capital_cost : TariffFigures → Service → LocalityRow → Fr
 exact_capital_cost t service l =
     plus (exact_return t.rate.0 (of_service service l.rows)) (exact_depreciations (of_service service l.rows) (of_service service t.lives))
 
--- the fees for the concession: cou and coa for each expected point
+-- the two fees: cou recovers what the contracting authority is paid once, coa what it is paid yearly, each for every expected point
 abbrev pub exact_fees : TariffFigures → LocalityRow → Frac
 exact_fees t l = over ((t.cou.0 + t.coa.0) * l.expected) 10000
 

@@ -17,7 +17,8 @@ abbrev pub asset_fits : ℕ → Bool
 asset_fits cents = nat_le cents 10000000000
 
 -- the first fault of an asset row whose figures are n to n + 4: gross, net, works, contributions, remaining contributions.
--- Net and contributions do not exceed gross, and remaining contributions exceed neither net nor contributions.
+-- Assets are worth no more net than gross, and nobody contributed more than they cost; what is left of the contributions is no more than
+-- was contributed, nor than the assets are still worth.
 abbrev pub row_fault : Test → ℕ → AssetRow → Option ℕ
 row_fault Limits n a =
     first_of

@@ -25,7 +25,7 @@ fn remaining_fits(a: &AssetRow) -> bool
     a.remaining <= a.net && a.remaining <= a.contributions
 }
 
-// A row's figures against one another; of two at odds the later is named.
+// A row's figures against one another: the later figure of a pair is named.
 fn odds_of_row(row: u8, a: &AssetRow) -> Option<u64>
     ensures { result ≡ row_fault Odds (5 * row) a.now }
 {

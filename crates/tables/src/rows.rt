@@ -37,7 +37,7 @@ pub trait Row: Copy {
     ghost records_stand: { (r : Self.Record) → stands (row_of r) ≡ true };
 }
 
-// The rows hold plain numbers, also for a state or a class: the caller lends them, and one outside its limits counts as blank.
+// The rows hold plain numbers, also for a state or a class: the caller lends them, and a row that breaks a limit is read as a blank one.
 
 /// An asset row of a locality, in cents.
 #[derive(Clone, Copy, Debug, Default, PartialEq, Eq)]
@@ -51,7 +51,7 @@ pub struct AssetRow {
     pub remaining: u64,
 }
 
-/// A locality as it is filed. Rows 1 to 5 are distribution, 6 to 8 metering.
+/// A locality as it is filed. Its first five asset rows belong to distribution, the last three to metering.
 #[derive(Clone, Copy, Debug, Default, PartialEq, Eq)]
 pub struct LocalityRow {
     pub company: u64,

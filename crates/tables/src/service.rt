@@ -10,7 +10,7 @@ pub enum Service {
 impl Service {
     ghost use Rattle.tables.specs.Costs.{of_service, row_count};
 
-    /// What belongs to the service of things by asset row: rows 1 to 5 are distribution, 6 to 8 metering.
+    /// What belongs to the service of things by asset row: the first five are those of distribution.
     pub(crate) fn part<T>(self, by_row: &[T; 8]) -> &[T]
         ensures value { result.now ≡ of_service self by_row.now }
         ensures len { length result.now ≡ row_count self }

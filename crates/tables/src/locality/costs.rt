@@ -60,7 +60,7 @@ impl Locality {
         for_points(t.telcon.0, self.row().smart)
     }
 
-    /// What a locality in regime adds: the fees for its concession, and remote reading.
+    /// What a locality in regime adds: the two fees cou and coa, and remote reading.
     pub fn additions(&self, tariff: &Tariff) -> u64
         ensures value { result ≡ additions tariff.now.figures self.now.row }
         ensures small { result ≤ 4000000000000 }
