@@ -37,7 +37,10 @@ still_stands p b stood volume days =
 pub year_days : (t : Tariff) → t.figures.days ≤ 366
 year_days t = ⊎_elim (λ short. omega arith) (λ long. omega arith) (held t).year
 
-module _ (o : Opened) (points : List PointRow) (point : ℕ) (dv dd : ℤ) (b : Bill) (g : GrantedBill o.tariff.figures points point dv dd b) where
+module _ (o : Opened) (localities : List LocalityRow) (points : List PointRow) (point : ℕ) (dv dd : ℤ) (c : Charged) (g : GrantedBill o.tariff.figures localities points point dv dd c) where
+  abbrev b : Bill
+  b = c.bill
+
   pub ug1_gains : pos (ug1_due o.tariff.figures (set points point (billed_row (get_or points point no_point) b))) ≡ pos (ug1_due o.tariff.figures points) +ℤ b.charge.ug1.0
   ug1_gains =
       let t = o.tariff.figures in
@@ -66,7 +69,7 @@ rows (Some o) localities points point dv dd c granted =
     record {
       volume = ap (λ (p : PointRow). pos p.volume) row ∙ g.charges.volume;
       days = ap (λ (p : PointRow). pos p.days) row ∙ g.charges.days;
-      account = account_gains o points point dv dd c.bill g;
+      account = account_gains o localities points point dv dd c g;
     }
 
 pub bill_law : BillLaw
