@@ -1,6 +1,7 @@
 -- What the entries of a journal come to.
 use Rattle.std.specs.Prelude.{ℕ, Bool, true, false, cond, ◌&&◌, List, [], ◌∷◌, ◌++◌, ℤ, pos, ◌==◌}
 use Rattle.units.specs.declared.amounts.Cents.{Cents}
+use Rattle.std.specs.List.{filter}
 use Rattle.journal.specs.declared.entry.Entry.{Entry}
 use Rattle.journal.specs.declared.entry.Kind.{Kind}
 use Rattle.journal.specs.declared.entry.Kind.TheVariants.{Bill, Advance, Balance}
@@ -52,6 +53,28 @@ payments es = sum_z payment_in es
 abbrev pub payment_to : (company : ℕ) → Entry → ℤ
 payment_to company e = cond (e.company == company) (payment_in e) (pos 0)
 
--- the advances and balances of a company, added up
+-- all that an entry pays to a company, added up
 abbrev pub paid_to : List Entry → (company : ℕ) → ℤ
 paid_to es company = sum_z (payment_to company) es
+
+-- what an entry charges to the points of a company in lines 1 to 4: only a bill charges
+abbrev pub charge_to : (company : ℕ) → Entry → ℤ
+charge_to company e = cond (is_bill e.kind && e.company == company) e.amount.0 (pos 0)
+
+-- what the bills of a company charged in lines 1 to 4, added up
+abbrev pub charged_to : List Entry → (company : ℕ) → ℤ
+charged_to es company = sum_z (charge_to company) es
+
+-- what all entries booked as UG1, and what they booked as line 5
+abbrev pub ug1_booked : List Entry → ℤ
+ug1_booked es = sum_z (λ e. e.ug1.0) es
+
+abbrev pub gs_booked : List Entry → ℤ
+gs_booked es = sum_z (λ e. e.other.0) es
+
+-- the entries that name a company, whatever their kind, and the bills of a point
+abbrev pub entries_of : List Entry → (company : ℕ) → List Entry
+entries_of es company = filter (λ e. e.company == company) es
+
+abbrev pub bills_of : List Entry → (point : ℕ) → List Entry
+bills_of es point = filter (λ e. is_bill e.kind && e.place == point) es

@@ -1,14 +1,14 @@
 -- What a granted filing, enrolling and bill say of the tables.
-use Rattle.std.proofs.Common.{◌≡◌, ℕ, ◌<◌, Bool, true, false, not, cond, ltb, leb, eqb, List, ◌∷◌, length, get_or, ℤ, is_some, Some, None, Ok, Option, refl, sym, ap, subst, ◌∙◌}
-use Rattle.std.proofs.lemmas.Bool.{ltb-true, eqb-true, false≢true}
+use Rattle.std.proofs.Common.{◌≡◌, ℕ, ◌<◌, ◌≤◌, Bool, true, false, not, cond, ltb, leb, eqb, List, [], ◌∷◌, length, get_or, ℤ, is_some, Some, None, Ok, Option, refl, sym, ap, subst, ◌∙◌, arith}
+use Rattle.std.proofs.lemmas.Bool.{ltb-true, leb-true, le-leb, eqb-true, and_from, and_parts, false≢true}
 use Rattle.units.specs.declared.refusal.Refusal.{Refusal}
-use Rattle.limits.specs.First.{unless, first_of}
+use Rattle.limits.specs.First.{among, unless, first_of}
 use Rattle.limits.specs.Checked.{faultless}
 use Rattle.tariff.specs.declared.figures.TariffFigures.{TariffFigures}
 use Rattle.tables.specs.declared.rows.LocalityRow.{LocalityRow}
 use Rattle.tables.specs.declared.rows.PointRow.{PointRow}
 use Rattle.tables.specs.Blank.{no_point, past_table}
-use Rattle.tables.specs.Filings.{change_fault, odds_fault, fault_of, filing_fault, limit_fault, locality_stands}
+use Rattle.tables.specs.Filings.{Odds, rows_fault, change_fault, odds_fault, fault_of, filing_fault, limit_fault, locality_stands}
 use Rattle.tables.specs.Lookups.{locality_at, point_at}
 use Rattle.tables.specs.PointRows.{point_stands}
 use Rattle.revenue.specs.Owners.{seat}
@@ -30,20 +30,47 @@ unless_none : (fits : Bool) (n : ℕ) → unless fits n ≡ None → fits ≡ tr
 unless_none true n none = refl
 unless_none false n none = cc
 
-no_odds : (limit odds : Option ℕ) → fault_of limit odds ≡ None → odds ≡ None
-no_odds None None none = refl
-no_odds None (Some n) none = cc
-no_odds (Some m) odds none = cc
+rest_none : (a : Option ℕ) (more : List (Option ℕ)) → first_of (a ∷ more) ≡ None → first_of more ≡ None
+rest_none None more none = none
+rest_none (Some n) more none = cc
 
-keeps_company : (old new : LocalityRow) → odds_fault (Some old) new ≡ None → new.company ≡ old.company
+no_faults : (limit odds : Option ℕ) → fault_of limit odds ≡ None → (limit ≡ None) × (odds ≡ None)
+no_faults None None none = (refl, refl)
+no_faults None (Some n) none = cc
+no_faults (Some m) odds none = cc
+
+-- filed again, a locality keeps its company and its area
+pub record Refiled (old new : LocalityRow) : Type 0 where
+  pub company : old.company ≡ new.company
+  pub area : old.area ≡ new.area
+
+refiled : (old new : LocalityRow) → odds_fault (Some old) new ≡ None → Refiled old new
 unfolding odds_fault
-keeps_company old new none =
-    eqb-true new.company old.company (unless_none (eqb new.company old.company) 0 (first_none _ _ (first_none (change_fault (Some old) new) _ none)))
+refiled old new none =
+    let kept = first_none (change_fault (Some old) new) _ none in
+    let of_state = rest_none (unless (eqb new.company old.company) 0) _ kept in
+    let of_area = rest_none (unless (eqb new.state old.state) 1) _ of_state in
+    record {
+      company = sym (eqb-true new.company old.company (unless_none (eqb new.company old.company) 0 (first_none _ _ kept)));
+      area = sym (eqb-true new.area old.area (unless_none (eqb new.area old.area) 2 (first_none _ _ of_area)));
+    }
 
--- where a locality stood, it was the company's
-stood_keeps : (stood : Bool) (old new : LocalityRow) → odds_fault (cond stood (Some old) None) new ≡ None → stood ≡ true → old.company ≡ new.company
-stood_keeps true old new none stands = sym (keeps_company old new none)
+stood_keeps : (stood : Bool) (old new : LocalityRow) → odds_fault (cond stood (Some old) None) new ≡ None → stood ≡ true → Refiled old new
+stood_keeps true old new none stands = refiled old new none
 stood_keeps false old new none stands = absurd (false≢true stands)
+
+-- a row that is filed without a fault stands
+none_at_odds : (old : Option LocalityRow) (new : LocalityRow) → odds_fault old new ≡ None → odds_fault None new ≡ None
+unfolding odds_fault
+none_at_odds old new none = rest_none (change_fault old new) (rows_fault Odds 5 new.rows ∷ []) none
+
+filed_stands : (old : Option LocalityRow) (new : LocalityRow) → ltb new.company 16 ≡ true → filing_fault old new ≡ None → locality_stands new ≡ true
+unfolding locality_stands
+filed_stands old new company none =
+    let faults = no_faults (limit_fault new) (odds_fault old new) none in
+    let one_of = ltb-true new.company 16 company in
+    and_from (leb new.company 15) _ (le-leb new.company 15 (omega arith))
+    (λ z. not (is_some (fault_of (faults.0 z) (none_at_odds old new faults.1 z))))
 
 no_fault : (fault : Option Refusal) (row filed : LocalityRow) → faultless fault row ≡ Ok filed → (fault ≡ None) × (row ≡ filed)
 no_fault None row filed granted = (refl, same row filed granted)
@@ -52,7 +79,8 @@ no_fault (Some refused) row filed granted = cc
 pub record Filed (companies : Companies) (localities : List LocalityRow) (place : ℕ) (row filed : LocalityRow) : Type 0 where
   pub within : place < length localities
   pub active : Active companies row.company
-  pub keeps : locality_stands (get_or localities place past_table) ≡ true → (get_or localities place past_table).company ≡ row.company
+  pub keeps : locality_stands (get_or localities place past_table) ≡ true → Refiled (get_or localities place past_table) row
+  pub stands : locality_stands row ≡ true
   pub is : filed ≡ row
 
 pub filing_granted : (companies : Companies) (localities : List LocalityRow) (place : ℕ) (row filed : LocalityRow) → filing companies localities place row ≡ Ok filed → Filed companies localities place row filed
@@ -69,7 +97,8 @@ filing_granted companies localities place row filed granted =
     record {
       within = ltb-true _ _ place_in.0;
       active = active_at companies row.company company.0 File open_company.0 company.1 refl open_company.1;
-      keeps = stood_keeps (locality_stands old) old row (no_odds (limit_fault row) (odds_fault (locality_at localities place) row) none.0);
+      keeps = stood_keeps (locality_stands old) old row (no_faults (limit_fault row) (odds_fault (locality_at localities place) row) none.0).1;
+      stands = filed_stands (locality_at localities place) row company_in.0 none.0;
       is = sym (same _ filed open_company.2) ∙ sym none.1;
     }
 
@@ -78,6 +107,10 @@ filing_granted companies localities place row filed granted =
 standing_row : {R : Type 0} (stands : Bool) (row found : R) → cond stands (Some row) None ≡ Some found → row ≡ found
 standing_row true row found stood = cc
 standing_row false row found stood = cc
+
+row_stands : {R : Type 0} (stands : Bool) (row found : R) → cond stands (Some row) None ≡ Some found → stands ≡ true
+row_stands true row found stood = refl
+row_stands false row found stood = cc
 
 seat_is : (localities : List LocalityRow) (place : ℕ) (l : LocalityRow) → locality_at localities place ≡ Some l → get_or localities place past_table ≡ l
 seat_is localities place l stood = standing_row (locality_stands (get_or localities place past_table)) (get_or localities place past_table) l stood
@@ -88,17 +121,24 @@ seat_is localities place l stood = standing_row (locality_stands (get_or localit
 abbrev pub unbilled : Enrolment → PointRow
 unbilled e = record { locality = e.locality; class = e.class; domestic = e.domestic; volume = 0; days = 0 }
 
-enrolled_row : (e : Enrolment) (row : PointRow) → enrolled_within e.locality e.class e.domestic ≡ Ok row → row ≡ unbilled e
+enrolled_row : (e : Enrolment) (row : PointRow) → enrolled_within e.locality e.class e.domestic ≡ Ok row → (row ≡ unbilled e) × (e.locality ≤ 255 → point_stands (unbilled e) ≡ true)
+unfolding point_stands
 enrolled_row e row granted =
-    let of_class = when_granted _ _ _ _ row granted in
-    let of_use = when_granted _ _ _ _ row of_class.1 in
-    sym (same _ row of_use.1)
+    let of_class = when_granted (among 3 e.class) _ _ _ row granted in
+    let of_use = when_granted (leb e.domestic 1) _ _ _ row of_class.1 in
+    let class = and_parts (leb 1 e.class) (leb e.class 3) of_class.0 in
+    (sym (same _ row of_use.1),
+    λ near.
+    and_from _ _ (and_from _ _ (and_from _ _ (and_from _ _ (and_from _ _ (le-leb e.locality 255 near) class.0) class.1) of_use.0) refl) refl)
 
 pub record Enrolled (companies : Companies) (localities : List LocalityRow) (points : List PointRow) (point : ℕ) (e : Enrolment) (row : PointRow) : Type 0 where
   pub within : point < length points
   pub blank : point_stands (get_or points point no_point) ≡ false
+  pub seated : e.locality < length localities
+  pub seat_stands : locality_stands (get_or localities e.locality past_table) ≡ true
   pub active : Active companies (get_or localities e.locality past_table).company
   pub is : row ≡ unbilled e
+  pub stands : point_stands (unbilled e) ≡ true
 
 pub enrolling_granted : (companies : Companies) (localities : List LocalityRow) (points : List PointRow) (point : ℕ) (e : Enrolment) (row : PointRow) → enrolling companies localities points point e.locality e.class e.domestic ≡ Ok row → Enrolled companies localities points point e row
 enrolling_granted companies localities points point e row granted =
@@ -110,12 +150,19 @@ enrolling_granted companies localities points point e row granted =
     let free = when_granted (not (is_some (point_at points point))) _ _ _ row company.2 in
     let new = next_granted (enrolled_within e.locality e.class e.domestic) _ row free.1 in
     let open_company = next_granted (after_event company.0 locality.0.company Enrol) _ row new.2 in
-    let seat : (get_or localities e.locality past_table).company ≡ locality.0.company = ap (λ (l : LocalityRow). l.company) (seat_is localities e.locality locality.0 locality.1) in
+    let found = get_or localities e.locality past_table in
+    let seat : found.company ≡ locality.0.company = ap (λ (l : LocalityRow). l.company) (seat_is localities e.locality locality.0 locality.1) in
+    let row_is = enrolled_row e new.0 new.1 in
+    let few = leb-true (length localities) 256 (and_parts (leb (length localities) 256) (leb (length points) 65536) fit.0).0 in
+    let seated = ltb-true e.locality (length localities) locality_in.0 in
     record {
       within = ltb-true _ _ point_in.0;
+      seated = seated;
+      seat_stands = row_stands (locality_stands found) found locality.0 locality.1;
       blank = not_standing (point_stands (get_or points point no_point)) (get_or points point no_point) free.0;
       active = subst (Active companies) (sym seat) (active_at companies locality.0.company company.0 Enrol open_company.0 company.1 refl open_company.1);
-      is = sym (same _ row open_company.2) ∙ enrolled_row e new.0 new.1;
+      is = sym (same _ row open_company.2) ∙ row_is.0;
+      stands = row_is.1 (omega arith);
     }
 
 -- ---- A bill

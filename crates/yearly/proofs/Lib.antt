@@ -6,6 +6,9 @@ pub mod PayingSteps
 pub mod Foreign
 pub mod Grants
 pub mod TableSteps
+pub mod Sums
+pub mod Booked
+pub mod BookedSteps
 pub mod Rules
 pub mod Running
 pub mod Calling

@@ -28,6 +28,9 @@ use Rattle.yearly.proofs.Ties.{Fixed, Moving, book_at, state_at, story, Settled,
 use Rattle.yearly.proofs.CompanySteps.{draw_step, cancel_step, send_step, bounce_step, reopen_step, register_step}
 use Rattle.yearly.proofs.PayingSteps.{confirm_step, close_step}
 use Rattle.yearly.proofs.TableSteps.{file_step, enrol_step, bill_step}
+use Rattle.yearly.proofs.Sums.{none_billed, none_gs_due, none_ug1_due}
+use Rattle.yearly.proofs.Booked.{Booked, BookedIn}
+use Rattle.yearly.proofs.BookedSteps.{booked_step}
 use Rattle.yearly.proofs.Rules.{rules_stand}
 
 -- ---- One call
@@ -45,16 +48,24 @@ tied_step y h m T (Close company) = close_step y h m T company (closing (book_at
 tied_step y h m T (Reopen company) = reopen_step y h m T company (reopening (book_at y m.companies m.entries) company) refl
 tied_step y h m T (Ask q) = record { m = m; is = refl; tied = asked y h m T q (answer_to y.filings (state_at y m) (Ask q)) }
 
-step : (y : Fixed) (h : History) (s : State) → Stands y h s → (c : Call) → Stands y ((c, answer_to y.filings s c) ∷ h) (after_call y.filings s c)
-step y h s stands c =
-    subst (λ (s : State). Stands y ((c, answer_to y.filings s c) ∷ h) (after_call y.filings s c)) (sym stands.is) (tied_step y h stands.m stands.tied c)
+-- a state that is tied to a history, with the entries that it tells
+record Follows (y : Fixed) (h : History) (s : State) : Type 0 where
+  stands : Stands y h s
+  booked : BookedIn y h s
+
+step : (y : Fixed) (h : History) (s : State) → Follows y h s → (c : Call) → Follows y ((c, answer_to y.filings s c) ∷ h) (after_call y.filings s c)
+step y h s f c =
+    let m = f.stands.m in
+    let booked : BookedIn y h (state_at y m) = subst (BookedIn y h) f.stands.is f.booked in
+    let after : Follows y ((c, answer_to y.filings (state_at y m) c) ∷ h) (after_call y.filings (state_at y m) c) = record { stands = tied_step y h m f.stands.tied c; booked = booked_step y h m f.stands.tied booked c } in
+    subst (λ (s : State). Follows y ((c, answer_to y.filings s c) ∷ h) (after_call y.filings s c)) (sym f.stands.is) after
 
 -- ---- The first n of a list of calls, whatever answers stand behind theirs
-run_stands : (y : Fixed) (n : ℕ) (calls : List Call) (more : List (Result Granted Refusal)) (h : History) (s : State) → Stands y h s → Stands y (history_after h (take n calls) (run_answers y.filings s calls ++ more)) (run_after y.filings s (take n calls))
-run_stands y zero calls more h s stands = stands
-run_stands y (suc n) [] more h s stands = stands
-run_stands y (suc n) (c ∷ cs) more h s stands =
-    run_stands y n cs more ((c, answer_to y.filings s c) ∷ h) (after_call y.filings s c) (step y h s stands c)
+run_follows : (y : Fixed) (n : ℕ) (calls : List Call) (more : List (Result Granted Refusal)) (h : History) (s : State) → Follows y h s → Follows y (history_after h (take n calls) (run_answers y.filings s calls ++ more)) (run_after y.filings s (take n calls))
+run_follows y zero calls more h s f = f
+run_follows y (suc n) [] more h s f = f
+run_follows y (suc n) (c ∷ cs) more h s f =
+    run_follows y n cs more ((c, answer_to y.filings s c) ∷ h) (after_call y.filings s c) (step y h s f c)
 
 -- ---- The beginning
 no_entries : (es : List Entry) → length es ≡ 0 → es ≡ []
@@ -98,6 +109,19 @@ module _ (b : BookState) (tariff : Tariff) (number : ℕ) (sum : ℤ) (filings l
         spent = refl;
       }
 
+  begun_booked : Booked year_fixed [] [] (blank_moving []).localities (blank_moving []).points
+  begun_booked =
+      record {
+        standing = record { points = λ place e is. cc; localities = λ place row is. cc };
+        adds =
+            record {
+              lines = λ company. ap pos (sym (none_billed tariff.figures (blank_moving []).localities (length points) company));
+              ug1 = ap pos (sym (none_ug1_due tariff.figures (length points)));
+              gs = ap pos (sym (none_gs_due tariff.figures (length points)));
+            };
+        tells = record { entries = refl; companies = λ company none. refl; points = λ point none. refl };
+      }
+
   pub always_in_order : opening b number sum localities points ≡ Ok tt → (calls : List Call) (more : List (Result Granted Refusal)) → AlwaysInOrder tariff sum filings (begun b tariff number sum localities points) calls (run_answers filings (begun b tariff number sum localities points) calls ++ more)
   always_in_order granted calls more n =
       let closed = when_granted (not (is_some b.opened)) _ _ _ tt granted in
@@ -106,8 +130,13 @@ module _ (b : BookState) (tariff : Tariff) (number : ℕ) (sum : ℤ) (filings l
       let fit = when_granted (tables_fit localities points) _ _ _ tt empty.1 in
       let few = ap (λ (n : ℕ). leb n 65536) (length-replicate (length points) no_point) ∙ (and_parts (leb (length localities) 256) (leb (length points) 65536) fit.0).1 in
       let s = begun b tariff number sum localities points in
-      let stands : Stands year_fixed [] s = record { m = blank_moving b.entries; is = refl; tied = subst (λ (es : List Entry). Tied year_fixed [] (blank_moving es)) (sym none) begun_tied } in
-      rules_stand year_fixed _ _ few (run_stands year_fixed n calls more [] s stands)
+      let follows : Follows year_fixed [] s =
+      record {
+        stands = record { m = blank_moving b.entries; is = refl; tied = subst (λ (es : List Entry). Tied year_fixed [] (blank_moving es)) (sym none) begun_tied };
+        booked = subst (λ (es : List Entry). Booked year_fixed [] es (blank_moving []).localities (blank_moving []).points) (sym none) begun_booked;
+      } in
+      let after = run_follows year_fixed n calls more [] s follows in
+      rules_stand year_fixed _ _ few after.stands after.booked
 
   -- the same for what an opening left, and for answers that a run wrote
   pub ran_in_order : (result : Result (Unit {0}) Refusal) (z : ℤ) (after : BookState) (localities' : List LocalityRow) (points' : List PointRow) (calls : List Call) (answers more : List (Result Granted Refusal)) → result ≡ Ok tt → z ≡ sum → result ≡ opening b number z localities points → after ≡ opened_by b tariff number z result → localities' ≡ blanked no_locality localities result → points' ≡ blanked no_point points result → answers ≡ run_answers filings (standing after localities' points') calls ++ more → AlwaysInOrder tariff sum filings (begun b tariff number sum localities points) calls answers

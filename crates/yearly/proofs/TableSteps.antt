@@ -28,7 +28,8 @@ use Rattle.book.proofs.Bills.{GrantedBill, bill_granted}
 use Rattle.book.proofs.BillLaw.{still_stands, year_days}
 use Rattle.book.proofs.Noting.{its_change, others_change, no_advances, no_payment}
 use Rattle.yearly.specs.Histories.{Told, History, or_else, filing_of, enrolment_of}
-use Rattle.yearly.specs.YearRules.{locality_in, point_in}
+use Rattle.yearly.specs.Entries.{locality_in}
+use Rattle.yearly.specs.YearRules.{point_in}
 use Rattle.yearly.proofs.Writing.{each_after_set}
 use Rattle.yearly.proofs.Stories.{Held}
 use Rattle.yearly.proofs.Ties.{Fixed, Moving, book_at, story, PointTied, Tied, Stands, kept, point_same}
@@ -44,7 +45,7 @@ module _ (y : Fixed) (h : History) (m : Moving) (T : Tied y h m) where
   -- the sums of a company that does not own the locality
   filed_sums : (place : ℕ) (row filed : LocalityRow) → Filed m.companies m.localities place row filed → (i : ℕ) → (row.company ≡ i → ⊥) → SameSums y.tariff.figures m.localities (set m.localities place row) m.points m.points i
   filed_sums place row filed g i other =
-      let old = owns_not (get_or m.localities place past_table) i (λ stands here. other (sym (g.keeps stands) ∙ here)) in
+      let old = owns_not (get_or m.localities place past_table) i (λ stands here. other (sym (g.keeps stands).company ∙ here)) in
       let new = owns_not row i (λ stands. other) in
       record {
         localities = localities_foreign m.localities i place row old new y.tariff.figures;
@@ -149,7 +150,7 @@ module _ (y : Fixed) (h : History) (m : Moving) (T : Tied y h m) where
 
   -- ---- Billing
 
-  module _ (point : ℕ) (change : Change) (c : Charged) (g : GrantedBill y.tariff.figures m.points point change.volume change.days c.bill) (active : Active m.companies (seat m.localities (get_or m.points point no_point)).company) where
+  module _ (point : ℕ) (change : Change) (c : Charged) (g : GrantedBill y.tariff.figures m.localities m.points point change.volume change.days c) (active : Active m.companies (seat m.localities (get_or m.points point no_point)).company) where
     abbrev row : PointRow
     row = get_or m.points point no_point
 

@@ -24,7 +24,8 @@ use Rattle.book.specs.Calls.{State}
 use Rattle.book.specs.Questions.{settlement, price_for, paid_out}
 use Rattle.book.specs.JournalSums.{journal_volume, journal_days, advances_of, payments, paid_to}
 use Rattle.yearly.specs.Histories.{Told, History, terms_of, filing_of, enrolment_of, closed_in, drawn, confirmed, taken_back}
-use Rattle.yearly.specs.YearRules.{locality_in, point_in}
+use Rattle.yearly.specs.Entries.{locality_in}
+use Rattle.yearly.specs.YearRules.{point_in}
 use Rattle.yearly.proofs.Writing.{each_after_set}
 use Rattle.yearly.proofs.Stories.{Story, HeldBy, Held}
 

@@ -1,3 +1,4 @@
 pub mod Histories
+pub mod Entries
 pub mod YearRules
 pub mod Runs
