@@ -6,19 +6,25 @@ use Rattle.tariff.specs.declared.table.Tariff.{Tariff}
 use Rattle.tables.specs.declared.rows.LocalityRow.{LocalityRow}
 use Rattle.tables.specs.declared.rows.PointRow.{PointRow}
 use Rattle.calls.specs.Decisions.{tables_fit}
-use Rattle.calls.specs.Steps.{when}
+use Rattle.calls.specs.Steps.{when, next}
 use Rattle.book.specs.States.{BookState, with_opened}
 
--- opening a book: 3 where it is open or its journal is not empty, 4 for a table too long, 7 for a book number above 65,535 (figure 1) and an
--- opening sum beyond 10^12 cents on either side of 0 (figure 2)
-abbrev pub opening : BookState → (number : ℕ) → (sum : ℤ) → List LocalityRow → List PointRow → Result (Unit {0}) Refusal
-opening b number sum localities points =
+-- whether the book can still be opened: 3 where it is open, then 3 where its journal has an entry
+abbrev pub unused : BookState → Result (Unit {0}) Refusal
+unused b =
     when (not (is_some b.opened)) BookInUse 0
     (when (length b.entries == 0) BookInUse 0
-    (when (tables_fit localities points) PastTable 0
+    (Ok tt))
+
+-- opening a book that is still unused: then 4 for a table too long, 7 for a book number above 65,535 (figure 1) and an opening sum beyond
+-- 10^12 cents on either side of 0 (figure 2)
+abbrev pub opening : BookState → (number : ℕ) → (sum : ℤ) → List LocalityRow → List PointRow → Result (Unit {0}) Refusal
+opening b number sum localities points =
+    next (unused b) (λ _.
+    when (tables_fit localities points) PastTable 0
     (when (nat_le number 65535) FigureLimit 1
     (when (nat_le (unsigned_abs sum) 1000000000000) FigureLimit 2
-    (Ok tt)))))
+    (Ok tt))))
 
 -- a granted opening leaves the tariff table, the number, the sum and sixteen places without a company on record
 abbrev pub opened_by : BookState → Tariff → (number : ℕ) → (sum : ℤ) → Result (Unit {0}) Refusal → BookState

@@ -17,9 +17,9 @@ use Rattle.book.specs.States.{BookState}
 use Rattle.book.specs.Companies.{registered, drawing, cancelling, sending, confirming, bouncing}
 use Rattle.book.specs.Rows.{filing, enrolling, billing}
 use Rattle.book.specs.Closings.{closing, reopening}
-use Rattle.book.specs.Openings.{opening, opened_by, blanked}
+use Rattle.book.specs.Openings.{unused, opening, opened_by, blanked}
 use Rattle.book.specs.Calls.{State, filed_row, answer_to, after_call}
-use Rattle.book.proofs.Granted.{when_granted}
+use Rattle.book.proofs.Granted.{when_granted, next_granted}
 use Rattle.yearly.specs.Histories.{History}
 use Rattle.yearly.specs.Runs.{standing, begun, run_answers, run_after, history_after, AlwaysInOrder}
 use Rattle.yearly.proofs.Writing.{blank_at}
@@ -124,10 +124,11 @@ module _ (b : BookState) (tariff : Tariff) (number : ℕ) (sum : ℤ) (filings l
 
   pub always_in_order : opening b number sum localities points ≡ Ok tt → (calls : List Call) (more : List (Result Granted Refusal)) → AlwaysInOrder tariff sum filings (begun b tariff number sum localities points) calls (run_answers filings (begun b tariff number sum localities points) calls ++ more)
   always_in_order granted calls more n =
-      let closed = when_granted (not (is_some b.opened)) _ _ _ tt granted in
-      let empty = when_granted (eqb (length b.entries) 0) _ _ _ tt closed.1 in
+      let fresh = next_granted (unused b) _ tt granted in
+      let closed = when_granted (not (is_some b.opened)) _ _ _ fresh.0 fresh.1 in
+      let empty = when_granted (eqb (length b.entries) 0) _ _ _ fresh.0 closed.1 in
       let none = no_entries b.entries (eqb-true (length b.entries) 0 empty.0) in
-      let fit = when_granted (tables_fit localities points) _ _ _ tt empty.1 in
+      let fit = when_granted (tables_fit localities points) _ _ _ tt fresh.2 in
       let few = ap (λ (n : ℕ). leb n 65536) (length-replicate (length points) no_point) ∙ (and_parts (leb (length localities) 256) (leb (length points) 65536) fit.0).1 in
       let s = begun b tariff number sum localities points in
       let follows : Follows year_fixed [] s =

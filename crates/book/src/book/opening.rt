@@ -2,7 +2,7 @@
 ghost use Rattle.std.specs.Prelude.{◌≡◌};
 ghost use Rattle.tables.specs.Blank.{no_locality, no_point};
 ghost use Rattle.book.specs.States.{state};
-ghost use Rattle.book.specs.Openings.{opening, opened_by, blanked};
+ghost use Rattle.book.specs.Openings.{unused, opening, opened_by, blanked};
 
 use super::Book;
 use crate::opened::Opened;
@@ -14,6 +14,16 @@ use tariff::table::Tariff;
 use units::refusal::{Reason, Refusal};
 
 impl<J: Journal, M: Management> Book<J, M> {
+    /// Whether the book can still be opened: it is not open, and its journal is empty.
+    pub fn unused(&self) -> Result<(), Refusal>
+        ensures { result ≡ unused (state J.Journal M.Management self.now) }
+    {
+        if self.opened.is_some() || self.journal.len() != 0 {
+            return Err(Reason::BookInUse.at(0));
+        }
+        Ok(())
+    }
+
     /// Opens the book: the tariff table is copied for good, and both lent tables are blank afterwards.
     pub fn open(
         &mut self,
@@ -28,9 +38,7 @@ impl<J: Journal, M: Management> Book<J, M> {
         ensures localities { localities.new ≡ blanked no_locality localities.old result }
         ensures points { points.new ≡ blanked no_point points.old result }
     {
-        if self.opened.is_some() || self.journal.len() != 0 {
-            return Err(Reason::BookInUse.at(0));
-        }
+        self.unused()?;
         if localities.len() > MOST_LOCALITIES || points.len() > MOST_POINTS {
             return Err(Reason::PastTable.at(0));
         }
