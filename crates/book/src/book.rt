@@ -32,16 +32,4 @@ impl<J: Journal, M: Management> Book<J, M> {
             opened: None,
         }
     }
-
-    /// The journal and the rule again.
-    pub fn parts(self) -> (J, M)
-        ensures { (result.0 ≡ self.journal) × (result.1 ≡ self.rule) }
-    {
-        let Book {
-            journal,
-            rule,
-            opened: _,
-        } = self;
-        (journal, rule)
-    }
 }

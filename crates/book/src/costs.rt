@@ -6,7 +6,7 @@ use management::rule::Management;
 use management::traits::Traits;
 use revenue::costs::Costs;
 
-pub fn costs_of<M: Management>(rule: &M, terms: &Terms) -> Costs
+pub(crate) fn costs_of<M: Management>(rule: &M, terms: &Terms) -> Costs
     ensures operating { result.operating.0 ≡ M.Management.price rule.now terms.now.figures.points terms.now.figures.density terms.now.figures.year }
     ensures verification { result.verification ≡ terms.now.figures.verification }
     ensures central { result.central ≡ terms.now.figures.central }

@@ -3,8 +3,8 @@
 
 pub mod answer;
 pub mod book;
-pub mod costs;
+mod costs;
 pub mod laws;
-pub mod opened;
+mod opened;
 pub mod order;
 mod settlement;
