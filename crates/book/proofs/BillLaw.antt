@@ -1,5 +1,5 @@
 -- What a granted bill leaves.
-use Rattle.std.proofs.Common.{◌≡◌, ℕ, ◌≤◌, true, List, get_or, set, get_or-set_same, ℤ, pos, ◌+ℤ◌, Some, None, Ok, Option, ⊎_elim, ap, ◌∙◌, arith}
+use Rattle.std.proofs.Common.{◌≡◌, ℕ, ◌≤◌, true, List, get_or, set, get_or-set_same, get_or-set_other, ℤ, pos, ◌+ℤ◌, Some, Ok, ⊎_elim, refl, sym, ap, subst, ◌∙◌, arith}
 use Rattle.std.proofs.lemmas.Bool.{cond-true, and_from, le-leb}
 use borrow.Author.Differences.{ints}
 use Rattle.journal.specs.Appending.{append_answer}
@@ -11,15 +11,18 @@ use Rattle.tables.specs.declared.rows.PointRow.{PointRow}
 use Rattle.tables.specs.Blank.{no_point}
 use Rattle.tables.specs.PointRows.{point_stands}
 use Rattle.tables.proofs.Holding.{point_held}
+use Rattle.revenue.specs.Owners.{seat}
 use Rattle.revenue.specs.Ug1.{point_ug1, ug1_due}
 use Rattle.revenue.proofs.Replacing.{ug1_set}
 use Rattle.calls.specs.declared.billing.Charged.{Charged}
 use Rattle.calls.specs.Decisions.{billing as billing_in}
 use Rattle.book.specs.declared.opened.Opened.{Opened}
-use Rattle.book.specs.States.{when_open}
+use Rattle.book.specs.States.{BookState, with_opened}
+use Rattle.book.specs.Rows.{billing, bill_entry, billed_by}
 use Rattle.book.specs.Tables.{billed_row}
-use Rattle.book.specs.Laws.{account_in, BillLaw}
+use Rattle.book.specs.Laws.{account_in, row_of, BillEntry, Billed, points_billed, BillLaw}
 use Rattle.book.proofs.Granted.{both_granted}
+use Rattle.book.proofs.Events.{on_record}
 use Rattle.book.proofs.Noting.{its_change, others_change, no_advances, no_payment}
 use Rattle.book.proofs.Bills.{GrantedBill, bill_granted}
 
@@ -55,35 +58,39 @@ module _ (o : Opened) (localities : List LocalityRow) (points : List PointRow) (
   account_gains : account_in (Some o) (set points point (billed_row (get_or points point no_point) b)) ≡ account_in (Some o) points +ℤ b.charge.ug1.0
   account_gains = let gains = ug1_gains in omega (arith, ints)
 
--- the row of the point, and the account
-record Rows (opened : Option Opened) (points : List PointRow) (point : ℕ) (dv dd : ℤ) (b : Bill) : Type 0 where
-  pub volume : pos (get_or (set points point (billed_row (get_or points point no_point) b)) point no_point).volume ≡ pos (get_or points point no_point).volume +ℤ dv
-  pub days : pos (get_or (set points point (billed_row (get_or points point no_point) b)) point no_point).days ≡ pos (get_or points point no_point).days +ℤ dd
-  pub account : account_in opened (set points point (billed_row (get_or points point no_point) b)) ≡ account_in opened points +ℤ b.charge.ug1.0
-
-rows : (opened : Option Opened) (localities : List LocalityRow) (points : List PointRow) (point : ℕ) (dv dd : ℤ) (c : Charged) → when_open opened (λ o. billing_in o.tariff.figures o.companies localities points point dv dd) ≡ Ok c → Rows opened points point dv dd c.bill
-rows None localities points point dv dd c granted = cc
-rows (Some o) localities points point dv dd c granted =
-    let g = bill_granted o.tariff.figures o.companies localities points point dv dd c granted in
-    let row = get_or-set_same points point (billed_row (get_or points point no_point) c.bill) no_point g.within in
+-- the bill of a book with o on record
+bill_of_open : (o : Opened) (b : BookState) (localities : List LocalityRow) (points : List PointRow) (point : ℕ) (dv dd : ℤ) (c : Charged) → billing (with_opened b (Some o)) localities points point dv dd ≡ Ok c → Billed o localities (with_opened b (Some o)) (billed_by (with_opened b (Some o)) point dv dd (Ok c)) points (points_billed points point c) point dv dd c
+bill_of_open o b localities points point dv dd c granted =
+    let answer = billing_in o.tariff.figures o.companies localities points point dv dd in
+    let g = bill_granted o.tariff.figures o.companies localities points point dv dd c (both_granted answer (append_answer b.room b.entries) c granted) in
+    let t = o.tariff.figures in
+    let old = row_of points point in
+    let new = billed_row old c.bill in
+    let row : row_of (set points point new) point ≡ new = get_or-set_same points point new no_point g.within in
+    let entry = bill_entry c point dv dd in
+    let booked : BillEntry t (seat localities old) old new point dv dd entry =
+    record { kind = refl; place = refl; volume = refl; days = refl; company = g.company; amount = g.charges.tariff; ug1 = g.charges.ug1; other = g.charges.gs } in
     record {
-      volume = ap (λ (p : PointRow). pos p.volume) row ∙ g.charges.volume;
-      days = ap (λ (p : PointRow). pos p.days) row ∙ g.charges.days;
+      entry = entry;
+      entries = refl;
+      booked = subst (λ (p : PointRow). BillEntry t (seat localities old) old p point dv dd entry) (sym row) booked;
+      amount = refl;
+      ug1 = refl;
+      other = refl;
+      volume = its_change b.entries c point dv dd (λ e. e.volume);
+      days = its_change b.entries c point dv dd (λ e. e.days);
+      row_volume = ap (λ (p : PointRow). pos p.volume) row ∙ g.charges.volume;
+      row_days = ap (λ (p : PointRow). pos p.days) row ∙ g.charges.days;
+      other_volume = others_change b.entries c point dv dd (λ e. e.volume);
+      other_days = others_change b.entries c point dv dd (λ e. e.days);
+      other_row = λ other not. get_or-set_other points point other new no_point not;
+      advances = no_advances b.entries c point dv dd;
+      payment = no_payment b.entries c point dv dd;
+      opened = refl;
       account = account_gains o localities points point dv dd c g;
     }
 
 pub bill_law : BillLaw
-bill_law b localities points point dv dd c granted =
-    let answer = when_open b.opened (λ o. billing_in o.tariff.figures o.companies localities points point dv dd) in
-    let r = rows b.opened localities points point dv dd c (both_granted answer (append_answer b.room b.entries) c granted) in
-    record {
-      volume = its_change b.entries c point dv dd (λ e. e.volume);
-      days = its_change b.entries c point dv dd (λ e. e.days);
-      row_volume = r.volume;
-      row_days = r.days;
-      other_volume = others_change b.entries c point dv dd (λ e. e.volume);
-      other_days = others_change b.entries c point dv dd (λ e. e.days);
-      advances = no_advances b.entries c point dv dd;
-      payment = no_payment b.entries c point dv dd;
-      account = r.account;
-    }
+bill_law b o localities points point dv dd c opened =
+    subst (λ (b : BookState). billing b localities points point dv dd ≡ Ok c → Billed o localities b (billed_by b point dv dd (Ok c)) points (points_billed points point c) point dv dd c)
+    (sym (on_record b o opened)) (bill_of_open o b localities points point dv dd c)

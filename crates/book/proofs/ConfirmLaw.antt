@@ -1,5 +1,5 @@
 -- What a granted confirming leaves.
-use Rattle.std.proofs.Common.{◌≡◌, ℕ, ◌+◌, ◌-◌, List, ◌+ℤ◌, ◌-ℤ◌, Some, None, Option, sym, ap, ◌∙◌, get_or-set_same, arith}
+use Rattle.std.proofs.Common.{◌≡◌, ℕ, ◌+◌, ◌-◌, List, ◌+ℤ◌, ◌-ℤ◌, Some, Option, sym, ap, ◌∙◌, arith}
 use borrow.Author.Differences.{ints}
 use Rattle.tables.specs.declared.rows.PointRow.{PointRow}
 use Rattle.journal.specs.Appending.{append_answer}
@@ -11,8 +11,8 @@ use Rattle.book.specs.States.{put}
 use Rattle.book.specs.Companies.{amount_paid, decided}
 use Rattle.book.specs.Questions.{paid_out}
 use Rattle.book.specs.Laws.{company_in, account_in, ConfirmLaw}
-use Rattle.book.proofs.Granted.{both_granted, within}
-use Rattle.book.proofs.Events.{GrantedEvent, event_granted, account_put}
+use Rattle.book.proofs.Granted.{both_granted}
+use Rattle.book.proofs.Events.{GrantedEvent, event_granted, account_put, company_put}
 use Rattle.book.proofs.Noting.{no_change, its_advance, others_advances, its_payment}
 
 module _ (opened : Option Opened) (place j : ℕ) (d : Company × ℕ) (g : GrantedEvent opened place (Confirm j) d) where
@@ -25,17 +25,12 @@ module _ (opened : Option Opened) (place j : ℕ) (d : Company × ℕ) (g : Gran
       let old = ap (paid_up_to g.c.terms.figures.advance g.c.terms.figures.instalments) before in
       omega (arith, ints)
 
-  account_loses : (points : List PointRow) (c : Company) → company_in opened place ≡ Some c → d.1 ≡ c.paid + 1 → account_in (put opened place d.0) points ≡ account_in opened points -ℤ (amount_paid d).0
-  account_loses points c stood next =
+  account_loses : (c : Company) → company_in opened place ≡ Some c → d.1 ≡ c.paid + 1 → (points : List PointRow) → account_in (put opened place d.0) points ≡ account_in opened points -ℤ (amount_paid d).0
+  account_loses c stood next points =
       let same : g.c ≡ c = cc in
       let more = gains (next ∙ ap (λ (x : Company). x.paid + 1) (sym same)) in
       let account = account_put opened place g.c d.0 points g.stood in
       omega (arith, ints)
-
--- a company that is put in the place of one stands there
-company_put : (opened : Option Opened) (place : ℕ) (c new : Company) → company_in opened place ≡ Some c → company_in (put opened place new) place ≡ Some new
-company_put None place c new stood = cc
-company_put (Some o) place c new stood = get_or-set_same o.companies place (Some new) None (within o.companies place c stood)
 
 pub confirm_law : ConfirmLaw
 confirm_law b o d granted =

@@ -1,5 +1,5 @@
 -- What a granted event of a company says of the company, and what it does to the account.
-use Rattle.std.proofs.Common.{◌≡◌, ℕ, eqb, ltb, ◌+ℤ◌, List, Some, None, Ok, Option, sym, ap, ◌∙◌, arith}
+use Rattle.std.proofs.Common.{◌≡◌, ◌≢◌, ℕ, eqb, ltb, ◌+ℤ◌, List, Some, None, Ok, Option, refl, sym, ap, ◌∙◌, get_or-set_same, get_or-set_other, arith}
 use borrow.Author.Differences.{ints}
 use Rattle.units.specs.Refusals.{refused_at}
 use Rattle.rounding.proofs.SumLaws.{sum_z_set}
@@ -9,7 +9,7 @@ use Rattle.company.specs.declared.record.Event.{Event}
 use Rattle.company.specs.Events.{act_answer, act_after, moved}
 use Rattle.calls.specs.Decisions.{company_at, after_event, deciding}
 use Rattle.book.specs.declared.opened.Opened.{Opened}
-use Rattle.book.specs.States.{when_open, put}
+use Rattle.book.specs.States.{BookState, when_open, with_opened, put}
 use Rattle.book.specs.Laws.{company_in, account_in}
 use Rattle.book.specs.Questions.{paid_out}
 use Rattle.book.proofs.Granted.{when_granted, found_granted, next_granted, at_granted, within}
@@ -44,3 +44,17 @@ account_put (Some o) place c new points stood =
     let replaced = sum_z_set paid_out o.companies place (Some new) None (within o.companies place c stood) in
     let old = ap paid_out stood in
     omega (arith, ints, replaced, old)
+
+-- a company that is put in the place of one stands there
+pub company_put : (opened : Option Opened) (place : ℕ) (c new : Company) → company_in opened place ≡ Some c → company_in (put opened place new) place ≡ Some new
+company_put None place c new stood = cc
+company_put (Some o) place c new stood = get_or-set_same o.companies place (Some new) None (within o.companies place c stood)
+
+-- and the others stay
+pub others_put : (opened : Option Opened) (place : ℕ) (new : Company) (other : ℕ) → other ≢ place → company_in (put opened place new) other ≡ company_in opened other
+others_put None place new other not = refl
+others_put (Some o) place new other not = get_or-set_other o.companies place other (Some new) None not
+
+-- what is known to be on record can be written out
+pub on_record : (b : BookState) (o : Opened) → b.opened ≡ Some o → b ≡ with_opened b (Some o)
+on_record b o opened = ap (with_opened b) opened

@@ -6,3 +6,4 @@ pub mod ConfirmLaw
 pub mod QuietLaws
 pub mod Bills
 pub mod BillLaw
+pub mod CloseLaw

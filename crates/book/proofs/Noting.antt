@@ -9,6 +9,7 @@ use Rattle.rounding.specs.Sums.{sum_z}
 use Rattle.rounding.proofs.SumLaws.{sum_z_push}
 use Rattle.calls.specs.declared.billing.Charged.{Charged}
 use Rattle.book.specs.Companies.{advance_entry}
+use Rattle.book.specs.Closings.{balance_entry}
 use Rattle.book.specs.Rows.{bill_entry}
 use Rattle.book.specs.JournalSums.{change_at, advance_in, advances_of, payment_in, payments, Advanced}
 
@@ -64,3 +65,15 @@ module _ (es : List Entry) (c : Charged) (point : ℕ) (dv dd : ℤ) where
 
   pub no_payment : payments (es ++ bill_entry c point dv dd ∷ []) ≡ payments es
   no_payment = let more = sum_z_push payment_in es (bill_entry c point dv dd) in omega (arith, ints)
+
+-- ---- A balance
+module _ (es : List Entry) (company : ℕ) (amount : Cents) where
+  pub balance_no_change : (change : Entry → ℤ) (point : ℕ) → sum_z (change_at point change) (es ++ balance_entry company amount ∷ []) ≡ sum_z (change_at point change) es
+  balance_no_change change point =
+      let more = sum_z_push (change_at point change) es (balance_entry company amount) in omega (arith, ints)
+
+  pub balance_no_advances : (other : ℕ) → advances_of (es ++ balance_entry company amount ∷ []) other ≡ advances_of es other
+  balance_no_advances other = no_advance es (balance_entry company amount) other refl
+
+  pub balance_payment : payments (es ++ balance_entry company amount ∷ []) ≡ payments es +ℤ amount.0
+  balance_payment = sum_z_push payment_in es (balance_entry company amount)

@@ -18,7 +18,7 @@ use Rattle.revenue.proofs.Replacing.{ug1_set}
 use Rattle.company.specs.declared.figures.TermsFigures.{TermsFigures}
 use Rattle.company.specs.declared.record.Company.{Company}
 use Rattle.company.specs.declared.record.Event.{Event}
-use Rattle.company.specs.declared.record.Event.TheVariants.{Enrol, Draw, Cancel, Send, Bounce}
+use Rattle.company.specs.declared.record.Event.TheVariants.{Enrol, Draw, Cancel, Send, Bounce, Reopen}
 use Rattle.company.specs.declared.terms.Terms.{Terms}
 use Rattle.company.specs.Events.{new_company, moved as company_moved, paid_after}
 use Rattle.company.specs.Instalments.{paid_up_to}
@@ -28,6 +28,7 @@ use Rattle.calls.specs.Decisions.{Companies, company_at, after_event, registerin
 use Rattle.book.specs.declared.opened.Opened.{Opened}
 use Rattle.book.specs.States.{BookState, when_open, put}
 use Rattle.book.specs.Companies.{registered, registered_by, number_of, decided, drawing, cancelling, sending, bouncing, moved}
+use Rattle.book.specs.Closings.{reopening}
 use Rattle.book.specs.Rows.{enrolling}
 use Rattle.book.specs.Tables.{written}
 use Rattle.book.specs.Questions.{paid_out}
@@ -132,10 +133,14 @@ enrolling_quiet b localities points point e (Err refused) answered = record { en
 pub quiet_laws : QuietLaws
 quiet_laws =
     record {
-      registering = λ b points place figures. registering_quiet b points place figures (registered b place figures) refl;
-      drawing = λ b points place. event_quiet Draw (λ paid k. refl) b points (number_of b.opened) place (drawing b place) refl;
-      cancelling = λ b points o. event_quiet (Cancel o.instalment) (λ paid k. refl) b points o.book o.company (cancelling b o) refl;
-      sending = λ b points o. event_quiet (Send o.instalment) (λ paid k. refl) b points o.book o.company (sending b o) refl;
-      bouncing = λ b points o. event_quiet (Bounce o.instalment) (λ paid k. refl) b points o.book o.company (bouncing b o) refl;
-      enrolling = λ b localities points point e. enrolling_quiet b localities points point e (enrolling b localities points point e) refl;
+      registering = λ filings s place figures. registering_quiet s.book s.points place figures (registered s.book place figures) refl;
+      filing = λ filings s locality i. record { entries = refl; account = refl };
+      enrolling = λ filings s point e. enrolling_quiet s.book s.localities s.points point e (enrolling s.book s.localities s.points point e) refl;
+      drawing = λ filings s place. event_quiet Draw (λ paid k. refl) s.book s.points (number_of s.book.opened) place (drawing s.book place) refl;
+      cancelling = λ filings s o. event_quiet (Cancel o.instalment) (λ paid k. refl) s.book s.points o.book o.company (cancelling s.book o) refl;
+      sending = λ filings s o. event_quiet (Send o.instalment) (λ paid k. refl) s.book s.points o.book o.company (sending s.book o) refl;
+      bouncing = λ filings s o. event_quiet (Bounce o.instalment) (λ paid k. refl) s.book s.points o.book o.company (bouncing s.book o) refl;
+      reopening = λ filings s place. event_quiet Reopen (λ paid k. refl) s.book s.points (number_of s.book.opened) place (reopening s.book place) refl;
+      asking = λ filings s q. record { entries = refl; account = refl };
+      asked = λ filings s q. refl;
     }
