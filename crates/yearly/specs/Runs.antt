@@ -1,15 +1,17 @@
 -- What a list of calls is answered, and what stands after it: one call after another.
-use Rattle.std.specs.Prelude.{◌≡◌, ℕ, List, [], ◌∷◌, length, take, ℤ, Ok, Result}
+use Rattle.std.specs.Prelude.{◌≡◌, ℕ, List, [], ◌∷◌, length, take, ℤ, Ok, Result, nat_le}
 use Rattle.units.specs.declared.amounts.Cents.{Cents}
+use Rattle.units.specs.declared.refusal.Reason.TheVariants.{PastTable}
 use Rattle.units.specs.declared.refusal.Refusal.{Refusal}
 use Rattle.tariff.specs.declared.table.Tariff.{Tariff}
 use Rattle.tables.specs.declared.rows.LocalityRow.{LocalityRow}
 use Rattle.tables.specs.declared.rows.PointRow.{PointRow}
 use Rattle.tables.specs.Blank.{no_locality, no_point}
 use Rattle.calls.specs.declared.call.Call.{Call}
+use Rattle.calls.specs.Steps.{when, next}
 use Rattle.book.specs.declared.answer.Granted.{Granted}
 use Rattle.book.specs.States.{BookState}
-use Rattle.book.specs.Openings.{opened_by, blanked}
+use Rattle.book.specs.Openings.{unused, opening, opened_by, blanked}
 use Rattle.book.specs.Questions.{account}
 use Rattle.book.specs.Calls.{State, answer_to, after_call}
 use Rattle.yearly.specs.Histories.{History}
@@ -18,6 +20,12 @@ use Rattle.yearly.specs.YearRules.{Year, YearRules}
 -- a book with the tables that are lent to it
 abbrev pub standing : BookState → List LocalityRow → List PointRow → State
 standing b localities points = record { book = b; localities = localities; points = points }
+
+-- beginning a year that needs so many places of answers and has so many: 3 where the book is in use, 4 where the places are too few, and then
+-- what opening meets
+abbrev pub beginning : BookState → (number : ℕ) → (sum : ℤ) → List LocalityRow → List PointRow → (needed places : ℕ) → Result (Unit {0}) Refusal
+beginning b number sum localities points needed places =
+    next (unused b) (λ _. when (nat_le needed places) PastTable 0 (opening b number sum localities points))
 
 -- what stands after a granted opening
 abbrev pub begun : BookState → Tariff → (number : ℕ) → (sum : ℤ) → List LocalityRow → List PointRow → State

@@ -1,10 +1,7 @@
 // A list of calls, one after another, from the opening on.
-ghost use Rattle.std.specs.Prelude.{◌≡◌, ◌≤◌, ◌++◌, length, drop, IfOk, IfErr, nat_le};
-ghost use Rattle.units.specs.declared.refusal.Reason.TheVariants.{PastTable};
-ghost use Rattle.calls.specs.Steps.{when};
+ghost use Rattle.std.specs.Prelude.{◌≡◌, ◌≤◌, ◌++◌, length, drop, IfOk, IfErr};
 ghost use Rattle.book.specs.States.{state};
-ghost use Rattle.book.specs.Openings.{opening};
-ghost use Rattle.yearly.specs.Runs.{standing, begun, run_answers, run_after, AlwaysInOrder};
+ghost use Rattle.yearly.specs.Runs.{standing, beginning, begun, run_answers, run_after, AlwaysInOrder};
 
 use book::answer::Granted;
 use book::book::Book;
@@ -33,8 +30,8 @@ fn run<J: Journal, M: Management>(
     }
 }
 
-/// Opens a book and performs calls, each of which is answered at its place: refused by 4 where the places of answers are too few, else as the opening is,
-/// and then nothing is performed. The rules of the year hold after every one of the calls.
+/// Opens a book and performs calls, each of which is answered at its place. Refused by 3 where the book is in use, by 4 where the places of answers are
+/// too few, else as the opening is; then nothing is performed. The rules of the year hold after every one of the calls.
 pub fn run_year<J: Journal, M: Management>(
     book: &mut Book<J, M>,
     tariff: &Tariff,
@@ -46,12 +43,13 @@ pub fn run_year<J: Journal, M: Management>(
     calls: &[Call],
     answers: &mut [Result<Granted, Refusal>],
 ) -> Result<(), Refusal>
-    ensures answer { result ≡ when (nat_le (length calls.now) (length answers.old)) PastTable 0 (opening (state J.Journal M.Management book.old) number sum localities.old points.old) }
+    ensures answer { result ≡ beginning (state J.Journal M.Management book.old) number sum localities.old points.old (length calls.now) (length answers.old) }
     ensures run { IfOk result (λ _. answers.new ≡ run_answers filings.now (begun (state J.Journal M.Management book.old) tariff.now number sum localities.old points.old) calls.now ++ drop (length calls.now) answers.old) }
     ensures after { IfOk result (λ _. standing (state J.Journal M.Management book.new) localities.new points.new ≡ run_after filings.now (begun (state J.Journal M.Management book.old) tariff.now number sum localities.old points.old) calls.now) }
     ensures refused { IfErr result (λ _. (standing (state J.Journal M.Management book.new) localities.new points.new ≡ standing (state J.Journal M.Management book.old) localities.old points.old) × (answers.new ≡ answers.old)) }
     ensures rules { IfOk result (λ _. AlwaysInOrder tariff.now sum filings.now (begun (state J.Journal M.Management book.old) tariff.now number sum localities.old points.old) calls.now answers.new) }
 {
+    book.unused()?;
     if calls.len() > answers.len() {
         return Err(Reason::PastTable.at(0));
     }
