@@ -1,2 +1,2 @@
-pub mod Closings
+pub mod Calls
 pub mod Figures
