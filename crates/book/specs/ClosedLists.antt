@@ -1,4 +1,4 @@
--- The list of closed companies. Their order is free: it is not said which of them a place names.
+-- Which companies are closed, as a list. It is not said which of them stands at which place.
 use Rattle.std.specs.Prelude.{◌≡◌, ◌≢◌, ℕ, ◌<◌, ◌≤◌, IsOkAnd, Bool, true, false, IsTrue, List, length, slice_index, Some, None, Ok, Err, Option, Result, nat_le}
 use Rattle.units.specs.declared.refusal.Reason.TheVariants.{PastTable}
 use Rattle.units.specs.declared.refusal.Refusal.{Refusal}

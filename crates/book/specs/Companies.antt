@@ -74,7 +74,7 @@ confirmed_by b company (Err refused) = b
 abbrev pub order_drawn : (number company : ℕ) → Result (Company × ℕ) Refusal → Result DrawnOrder Refusal
 order_drawn number company answer = next answer (λ d. Ok (record { order = record { book = number; company = company; instalment = d.1 } }))
 
--- a refused order comes back as it was
+-- a call that refuses an order hands the same one back
 abbrev pub spends : {O X Y : Type 0} → O → (X → Y) → Result X Refusal → Result Y (Returned O)
 spends o gives (Ok x) = Ok (gives x)
 spends o gives (Err refused) = Err (record { order = o; refusal = refused })

@@ -53,7 +53,7 @@ payments es = sum_z payment_in es
 abbrev pub payment_to : (company : ℕ) → Entry → ℤ
 payment_to company e = cond (e.company == company) (payment_in e) (pos 0)
 
--- all that an entry pays to a company, added up
+-- all that a company was paid
 abbrev pub paid_to : List Entry → (company : ℕ) → ℤ
 paid_to es company = sum_z (payment_to company) es
 

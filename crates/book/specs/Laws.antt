@@ -88,7 +88,7 @@ pub record OrderLaws : Type 0 where
   pub billing : (c : Company) → Keeps c Bill
   -- no order of a closed company is out
   pub closed : (c : Company) → c.phase ≡ Closed → outs c.phase ≡ 0
-  -- a draw is for the lowest unpaid instalment, and the order is drawn for it
+  -- a draw is for the instalment after those that are paid, and the order is drawn for it
   pub drawn : (c : Company) (k : ℕ) → act_answer c Draw ≡ Ok k → (k ≡ c.paid + 1) × ((act_after c Draw).phase ≡ Drawn k)
   -- an order that is cancelled or sent was drawn, and for the instalment that is answered
   pub cancelled : (c : Company) (j k : ℕ) → act_answer c (Cancel j) ≡ Ok k → (j ≡ k) × (c.phase ≡ Drawn k)

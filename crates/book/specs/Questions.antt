@@ -70,12 +70,12 @@ abbrev pub lines_billed : BookState → List LocalityRow → List PointRow → (
 lines_billed b localities points company =
     when_open b.opened (λ o. asked o localities points company (λ c. record { 0 = pos (billed o.tariff.figures localities points company) }))
 
--- recognised revenue at an operating price, less lines 1 to 4 billed and advances
+-- what bills and advances leave of the revenue that is recognised at an operating price
 abbrev pub settlement : TariffFigures → (price : ℕ) → List LocalityRow → List PointRow → (company : ℕ) → Company → ℤ
 settlement t price localities points company c =
     pos (recognised_revenue t price c.terms.figures.verification c.terms.figures.central localities points company) -ℤ pos (billed t localities points company) -ℤ advances c
 
--- the balance due: the settlement, less earlier balances
+-- the balance due: what of the settlement no closing has booked yet
 abbrev pub due : TariffFigures → (price : ℕ) → List LocalityRow → List PointRow → (company : ℕ) → Company → Cents
 due t price localities points company c = record { 0 = settlement t price localities points company c -ℤ c.balances }
 
@@ -90,7 +90,7 @@ abbrev pub paid_out : Option Company → ℤ
 paid_out None = pos 0
 paid_out (Some c) = advances c +ℤ c.balances
 
--- the opening sum and line 6 of the points, less advances and balances
+-- what the account was opened with and line 6 of the points brought, without what was paid out
 abbrev pub account_of : Opened → List PointRow → ℤ
 account_of o points = o.sum +ℤ pos (ug1_due o.tariff.figures points) -ℤ sum_z paid_out o.companies
 

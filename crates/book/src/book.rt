@@ -1,4 +1,4 @@
-// A year's book over a journal and a management rule. The tables of localities and points are lent to each call.
+// A year's book over a journal and a management rule. Its callers lend it the two tables, call by call.
 ghost use Rattle.std.specs.Prelude.{◌≡◌, None};
 
 use crate::opened::Opened;

@@ -5,12 +5,12 @@ use units::refusal::Refusal;
 mod drawn;
 mod sent;
 
-/// An order that is drawn: it can be cancelled or sent.
+/// An order that was drawn and not sent yet: cancelling or sending spends it.
 pub struct DrawnOrder {
     pub(crate) order: Order,
 }
 
-/// An order that is sent: it can be confirmed or bounced.
+/// An order that was sent: confirming spends it, or bouncing.
 pub struct SentOrder {
     pub(crate) order: Order,
 }

@@ -9,7 +9,7 @@ use revenue::lent::Tables;
 use tariff::table::Tariff;
 use units::amounts::Cents;
 
-// The settlement of the company at a place, in cents: recognised revenue, less lines 1 to 4 billed and advances.
+// The settlement of the company at a place, in cents: what its bills and advances leave of recognised revenue.
 fn settlement(
     tariff: &Tariff,
     costs: Costs,
@@ -45,7 +45,7 @@ pub(crate) fn settle(
     Cents(due)
 }
 
-/// The balance that is due: the settlement, less the balances booked before.
+/// The balance that is due: what of the settlement no closing has booked yet.
 pub(crate) fn due(
     tariff: &Tariff,
     costs: Costs,

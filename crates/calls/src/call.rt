@@ -23,7 +23,7 @@ pub enum Call {
     Enrol { point: u64, enrolment: Enrolment },
     /// A bill changes a point's volume and days of the year to date.
     Bill { point: u64, change: Change },
-    /// An order is drawn for a company's lowest unpaid instalment.
+    /// An order is drawn for the instalment after those that a company is paid.
     Draw { company: u64 },
     /// A drawn order is cancelled.
     Cancel(Order),
@@ -43,7 +43,7 @@ pub enum Call {
 // A year has many calls, and a filing's row is no part of one.
 const _: () = prove!(size_of::<Call>() <= 64);
 
-/// A question: it alters nothing.
+/// A question, which leaves all as it is.
 #[derive(Clone, Copy, Debug, PartialEq, Eq)]
 pub enum Question {
     CapitalCost { locality: u64, service: Service },

@@ -21,7 +21,7 @@ while_open (Drawn j) answer = answer
 while_open (Sent j) answer = answer
 while_open Closed answer = Err CompanyClosed
 
--- drawing is for the lowest unpaid instalment: 11 while an order is out, 12 where all n are paid
+-- drawing is for the instalment after those that are paid: 11 while an order is out, 12 where all n are paid
 abbrev pub draw_answer : Phase → (paid n : ℕ) → Result ℕ Reason
 draw_answer Free paid n = cond (nat_lt paid n) (Ok (paid + 1)) (Err AllPaid)
 draw_answer (Drawn j) paid n = Err OrderOut

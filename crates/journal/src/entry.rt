@@ -22,7 +22,7 @@ impl Kind {
     }
 }
 
-/// What a kind of entry lacks is 0. The default, a bill of nothing, is what an unused place of an `ArrayVec` holds.
+/// A field for which a kind of entry has no use is 0. The default, a bill of nothing, is what an unused place of an `ArrayVec` holds.
 #[derive(Clone, Copy, Debug, Default, PartialEq, Eq)]
 pub struct Entry {
     pub kind: Kind,

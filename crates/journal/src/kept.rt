@@ -33,7 +33,7 @@ pub trait Journal {
     fn capacity(&self) -> usize
         ensures { result ≡ room self.now };
 
-    /// The entry at a place, from 0; none past the end.
+    /// What it holds at a place, counted from 0; nothing behind its last entry.
     fn get(&self, place: usize) -> Option<Entry>
         ensures { result ≡ slice_get (entries self.now) place };
 }

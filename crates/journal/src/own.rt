@@ -1,4 +1,4 @@
-// A journal of 256 entries within itself.
+// A journal that needs no memory of its caller: it has room for 256 entries.
 ghost use Rattle.std.specs.Prelude.{◌≡◌, ◌≤◌, [], length};
 ghost use Rattle.journal.specs.Bounds.{room_small};
 

@@ -8,11 +8,11 @@ use Rattle.management.specs.declared.weights.Weights.{Weights}
 abbrev pub quarters : ℕ → ℕ → Weights
 quarters medium large = record { 0 = medium; 1 = large }
 
--- by award year: 2 and 2 up to year 4, 1 and 3 in year 5, 0 and 4 from year 6 on
+-- by award year: four years half of each, one year a quarter and three, then the large price alone
 abbrev pub weights_of : ℕ → Weights
 weights_of year = cond (nat_le year 4) (quarters 2 2) (cond (year == 5) (quarters 1 3) (quarters 0 4))
 
--- the medium and the large price by their weights, added up
+-- the mix of both prices, in quarters
 abbrev pub weighed : Weights → ℕ → ℕ → ℕ
 weighed w medium large = medium * w.0 + large * w.1
 

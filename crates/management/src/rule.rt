@@ -12,7 +12,7 @@ pub trait Management {
     // No rule answers more than 10^9.
     ghost limited: { (m : Self) (points density year : ℕ) → price m points density year ≤ 1000000000 };
 
-    /// The price at these traits. Asking alters nothing.
+    /// The price at these traits. Asking leaves the rule as it is.
     fn operating_price(&self, traits: Traits) -> PointPrice
         ensures value { result.0 ≡ price self.now traits.points traits.density traits.year }
         ensures small { result.0 ≤ 1000000000 };

@@ -35,7 +35,7 @@ impl Weights {
         WEIGHTS[traits.year as usize - 1]
     }
 
-    /// The medium and the large price by their weights: a quarter of their sum, rounded once.
+    /// The mix of both prices, as one price that is rounded once.
     #[tactic(auto, using(crate::specs::Limits::mean_limited))]
     pub(crate) fn mean(
         self,

@@ -18,7 +18,7 @@ point_commercial t p = rounded (exact_commercial t p.days)
 unfoldable pub commercial_cents : TariffFigures → List LocalityRow → List PointRow → (company : ℕ) → State → ℕ
 commercial_cents t localities points company state = sum_if (serves_in localities company state) (point_commercial t) points
 
--- the points that so many cents of line 3 stand for, in thousandths: cents × 10,000,000 / commercial price, rounded
+-- the points that so many cents of line 3 stand for at the commercial price, in thousandths
 abbrev pub served_for : TariffFigures → (cents : ℕ) → ℕ
 served_for t cents = rounded (over (cents * 10000000) t.commercial.0)
 

@@ -58,7 +58,7 @@ worked_supply = record { area = 1; class = 1; domestic = false; first = lit≤ t
 abbrev pub asset : ℕ → ℕ → ℕ → ℕ → AssetRow
 asset gross net contributions remaining = record { gross = gross; net = net; works = 0; contributions = contributions; remaining = remaining }
 
--- in regime, with 100 expected and 40 smart points, a plant in row 3 and meters in row 6
+-- in regime; 100 points are expected and 40 are smart; a plant in row 3 and meters in row 6
 abbrev pub worked_locality : LocalityRow
 worked_locality =
     record {

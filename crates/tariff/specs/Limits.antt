@@ -79,7 +79,7 @@ variable_tests f =
     ∷ first_beyond volume_price_fits (60 + 2 * f.count) (components_of f)
     ∷ []
 
--- then the rate of return, 62 + 2k, the lives from 63 + 2k, and cou, coa, telcon, avv, ins and rac from 71 + 2k
+-- then the rate of return, 62 + 2k, the lives from 63 + 2k, and the six prices from cou to rac from 71 + 2k
 unfoldable pub cost_tests : TariffFigures → List (Option ℕ)
 cost_tests f =
     unless (rate_fits f.rate) (62 + 2 * f.count)

@@ -74,7 +74,7 @@ fn listing(lines: &mut Lines<'_>, book: &mut Keeper<'_>) {
     book.ask_account(lines, &book.points);
 }
 
-// In a year of 365 days 365 days pass, and 366 do not.
+// A bill up to the last day of the year, and one past it.
 fn all_days(lines: &mut Lines<'_>, book: &mut Keeper<'_>) {
     book.reopen(lines, 0);
     book.enrol(lines, 1, 0, 1);

@@ -35,7 +35,7 @@ pub enum Layer {
     Journal = 4,
 }
 
-/// A reason, and the company, locality, point, figure or length that is at fault.
+/// A reason, and where it holds: at a company, a locality, a point, a figure or a length.
 #[derive(Clone, Copy, Debug, PartialEq, Eq)]
 pub struct Refusal {
     pub reason: Reason,

@@ -126,10 +126,11 @@ unfolding point_stands
 enrolled_row e row granted =
     let of_class = when_granted (among 3 e.class) _ _ _ row granted in
     let of_use = when_granted (leb e.domestic 1) _ _ _ row of_class.1 in
-    let class = and_parts (leb 1 e.class) (leb e.class 3) of_class.0 in
-    (sym (same _ row of_use.1),
-    λ near.
-    and_from _ _ (and_from _ _ (and_from _ _ (and_from _ _ (and_from _ _ (le-leb e.locality 255 near) class.0) class.1) of_use.0) refl) refl)
+    let class = and_parts (leb 1 e.class) (leb e.class 3) of_class.0 in (
+      sym (same _ row of_use.1),
+      λ near.
+          and_from _ _ (and_from _ _ (and_from _ _ (and_from _ _ (and_from _ _ (le-leb e.locality 255 near) class.0) class.1) of_use.0) refl) refl,
+    )
 
 pub record Enrolled (companies : Companies) (localities : List LocalityRow) (points : List PointRow) (point : ℕ) (e : Enrolment) (row : PointRow) : Type 0 where
   pub within : point < length points

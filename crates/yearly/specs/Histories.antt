@@ -80,7 +80,7 @@ filing_of filings h place = latest (files filings place) h
 abbrev pub enrolment_of : History → (point : ℕ) → Option Enrolment
 enrolment_of h point = latest (enrols point) h
 
--- a company is closed from a granted closing to a granted reopening
+-- a company is closed where no reopening followed its latest closing
 abbrev pub is_true : Option Bool → Bool
 is_true (Some b) = b
 is_true None = false

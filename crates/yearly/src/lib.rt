@@ -1,4 +1,4 @@
-// The yearly run: a book is opened and performs a list of calls, and after every list of calls the books meet.
+// The yearly run: a book is opened and performs calls, and whatever they are its books meet afterwards.
 #![tactic(auto)]
 
 pub mod run;

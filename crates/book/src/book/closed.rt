@@ -28,8 +28,8 @@ impl Opened {
 }
 
 impl<J: Journal, M: Management> Book<J, M> {
-    /// Names each closed company once, in any order, from the first of the list's places on, and answers how many they are. The list has sixteen
-    /// places or more; those after the closed companies stay as they were.
+    /// Enters the closed companies into the list, none twice, from its first place on, and answers how many they are. What stands further on is left.
+    /// A list of fewer than sixteen places is refused by 4.
     pub fn closed_companies(&self, list: &mut [u64]) -> Result<usize, Refusal>
         ensures { Listed (state J.Journal M.Management self.now) list.old list.new result }
     {

@@ -24,7 +24,7 @@ impl<J: Journal, M: Management> Book<J, M> {
         Ok(())
     }
 
-    /// Opens the book: the tariff table is copied for good, and both lent tables are blank afterwards.
+    /// Opens the book: it keeps a copy of the tariff table, and blanks every row of both lent tables.
     pub fn open(
         &mut self,
         tariff: &Tariff,

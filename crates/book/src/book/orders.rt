@@ -40,7 +40,7 @@ impl<J: Journal, M: Management> Book<J, M> {
         self.opened.as_ref().map_or(0, |opened| opened.number)
     }
 
-    /// Draws the order for a company's lowest unpaid instalment.
+    /// Draws the order for the instalment after those that a company is paid.
     pub fn draw(&mut self, company: u64) -> Result<DrawnOrder, Refusal>
         ensures answer { result ≡ order_drawn (number_of self.old.opened) company (drawing (state J.Journal M.Management self.old) company) }
         ensures after { state J.Journal M.Management self.new ≡ moved (state J.Journal M.Management self.old) company (drawing (state J.Journal M.Management self.old) company) }

@@ -1,4 +1,4 @@
-// The questions that the book answers. Asking alters nothing.
+// The questions that the book answers. A question leaves all as it is.
 ghost use Rattle.std.specs.Prelude.{◌≡◌, length};
 ghost use Rattle.std.specs.List.{slice_get};
 ghost use Rattle.limits.specs.Checked.{made_of};
@@ -100,7 +100,7 @@ impl<J: Journal, M: Management> Book<J, M> {
         Ok(tables.outcome(&opened.tariff, costs, company).revenue)
     }
 
-    /// The balance that is due to a company: its settlement, less the balances booked before.
+    /// The balance that is due to a company: what of its settlement no closing has booked yet.
     pub fn balance_due(
         &self,
         localities: &[LocalityRow],
@@ -115,7 +115,7 @@ impl<J: Journal, M: Management> Book<J, M> {
         Ok(due(&opened.tariff, costs, tables, company, &found))
     }
 
-    /// The equalisation account: the opening sum and line 6 of the points, less every advance and balance.
+    /// The equalisation account: what it was opened with and line 6 of the points brought, without what was paid out.
     pub fn account(&self, points: &[PointRow]) -> Result<Cents, Refusal>
         ensures { result ≡ asked.account (state J.Journal M.Management self.now) points.now }
     {
@@ -137,7 +137,7 @@ impl<J: Journal, M: Management> Book<J, M> {
         self.journal.capacity()
     }
 
-    /// The journal's entry at a place, from 0; none past the end.
+    /// What the journal holds at a place, counted from 0; nothing behind its last entry.
     pub fn entry(&self, place: usize) -> Option<Entry>
         ensures { result ≡ slice_get (J.Journal.entries self.now.journal) place }
     {

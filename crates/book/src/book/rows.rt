@@ -18,7 +18,7 @@ use tariff::supply::Change;
 use units::refusal::{Reason, Refusal};
 
 impl<J: Journal, M: Management> Book<J, M> {
-    /// Files a locality at a place; filing again replaces the figures.
+    /// Files a locality at a place. One on record gets new figures, but keeps its company, state and area.
     pub fn file(
         &self,
         localities: &mut [LocalityRow],
