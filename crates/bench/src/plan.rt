@@ -1,6 +1,7 @@
 // The calls of the benchmark's year, in their order.
 use crate::figures::{change, enrolment, locality, terms};
-use calls::call::{Call, Order, Question};
+use calls::call::{Call, Question};
+use orders::order::Order;
 use std::alloc::Global;
 use tables::rows::LocalityRow;
 

@@ -21,7 +21,7 @@ use Rattle.book.specs.States.{BookState, with_opened}
 use Rattle.book.specs.Rows.{billing, bill_entry, billed_by}
 use Rattle.book.specs.Tables.{billed_row}
 use Rattle.book.specs.Laws.{account_in, row_of, BillEntry, Billed, points_billed, BillLaw}
-use Rattle.book.proofs.Granted.{both_granted}
+use Rattle.units.proofs.Granted.{both_granted}
 use Rattle.book.proofs.Events.{on_record}
 use Rattle.book.proofs.Noting.{its_change, others_change, no_advances, no_payment}
 use Rattle.book.proofs.Bills.{GrantedBill, bill_granted}
@@ -61,8 +61,8 @@ module _ (o : Opened) (localities : List LocalityRow) (points : List PointRow) (
 -- the bill of a book with o on record
 bill_of_open : (o : Opened) (b : BookState) (localities : List LocalityRow) (points : List PointRow) (point : ℕ) (dv dd : ℤ) (c : Charged) → billing (with_opened b (Some o)) localities points point dv dd ≡ Ok c → Billed o localities (with_opened b (Some o)) (billed_by (with_opened b (Some o)) point dv dd (Ok c)) points (points_billed points point c) point dv dd c
 bill_of_open o b localities points point dv dd c granted =
-    let answer = billing_in o.tariff.figures o.companies localities points point dv dd in
-    let g = bill_granted o.tariff.figures o.companies localities points point dv dd c (both_granted answer (append_answer b.room b.entries) c granted) in
+    let answer = billing_in o.tariff.figures o.register.companies localities points point dv dd in
+    let g = bill_granted o.tariff.figures o.register.companies localities points point dv dd c (both_granted answer (append_answer b.room b.entries) c granted) in
     let t = o.tariff.figures in
     let old = row_of points point in
     let new = billed_row old c.bill in

@@ -19,9 +19,11 @@ use Rattle.revenue.specs.Ug1.{point_ug1}
 use Rattle.revenue.specs.Gs.{point_gs}
 use Rattle.company.specs.declared.record.Event.TheVariants.{Bill as BillEvent}
 use Rattle.calls.specs.declared.billing.Charged.{Charged}
-use Rattle.calls.specs.Decisions.{Companies, company_at, after_event, tables_fit, seated, charged, billing}
+use Rattle.orders.specs.Registers.{Companies, company_at, after_event}
+use Rattle.tables.specs.Lengths.{tables_fit}
+use Rattle.calls.specs.Decisions.{seated, charged, billing}
 use Rattle.book.specs.Tables.{billed_row}
-use Rattle.book.proofs.Granted.{when_granted, found_granted, next_granted, at_granted, same}
+use Rattle.units.proofs.Granted.{when_granted, found_granted, next_granted, at_granted, same}
 
 -- ---- The amounts
 kept : (fits : Bool) (m n : ℕ) → cond fits (Some m) None ≡ Some n → (fits ≡ true) × (m ≡ n)

@@ -1,5 +1,5 @@
 -- What a granted closing leaves.
-use Rattle.std.proofs.Common.{◌≡◌, ℕ, Bool, true, ltb, List, ℤ, ◌+ℤ◌, Some, Ok, Option, slice_set, refl, sym, ap, subst, ◌∙◌, arith}
+use Rattle.std.proofs.Common.{◌≡◌, ℕ, Bool, true, ltb, List, ℤ, ◌+ℤ◌, Some, Ok, Option, refl, sym, ap, subst, ◌∙◌, arith}
 use borrow.Author.Differences.{ints}
 use Rattle.units.specs.declared.amounts.Cents.{Cents}
 use Rattle.units.specs.declared.refusal.Reason.TheVariants.{PastTable}
@@ -11,14 +11,17 @@ use Rattle.company.specs.declared.record.Event.TheVariants.{Close}
 use Rattle.company.specs.declared.record.Phase.{Phase}
 use Rattle.company.specs.declared.record.Phase.TheVariants.{Free, Drawn, Sent, Closed}
 use Rattle.company.specs.Events.{close_answer, advances}
-use Rattle.calls.specs.Decisions.{company_at, tables_fit, deciding}
-use Rattle.calls.specs.Steps.{when, found, next}
+use Rattle.orders.specs.Registers.{company_at, deciding}
+use Rattle.tables.specs.Lengths.{tables_fit}
+use Rattle.units.specs.Steps.{when, found, next}
 use Rattle.book.specs.declared.opened.Opened.{Opened}
-use Rattle.book.specs.States.{BookState, with_opened}
-use Rattle.book.specs.Closings.{settled, settling, closing, balance_entry, closed_by}
+use Rattle.orders.specs.Registers.{with_company}
+use Rattle.book.specs.States.{BookState, with_opened, with_register}
+use Rattle.orders.specs.Orders.{settled}
+use Rattle.book.specs.Closings.{settling, closing, balance_entry, closed_by}
 use Rattle.book.specs.Questions.{asked, price_for, settlement, due, paid_out}
 use Rattle.book.specs.Laws.{YearClosed, CloseLaw}
-use Rattle.book.proofs.Granted.{when_granted, next_granted, both_granted, same}
+use Rattle.units.proofs.Granted.{when_granted, next_granted, both_granted, same}
 use Rattle.book.proofs.Events.{event_granted, account_put, company_put, others_put, on_record}
 use Rattle.book.proofs.Noting.{balance_no_change, balance_no_advances, balance_payment}
 
@@ -44,25 +47,25 @@ module _ (o : Opened) (price : ℕ → ℕ → ℕ → ℕ) (localities : List L
   -- the company c stood at the place, open and with no order out; d.1 was due to it, and d.0 is what it is after its closing
   record Granted (d : Company × Cents) : Type 0 where
     pub c : Company
-    pub stood : company_at o.companies place ≡ Some c
+    pub stood : company_at o.register.companies place ≡ Some c
     pub free : c.phase ≡ Free
     pub told : asked o localities points place owed ≡ Ok d.1
     pub amount : d.1 ≡ owed c
     pub after : d.0 ≡ record { terms = c.terms; paid = c.paid; phase = Closed; balances = settles c }
 
-  closing_granted : (d : Company × Cents) → when (tables_fit localities points) PastTable 0 (next (deciding o.companies o.number o.number place Close) (λ q. Ok (settling o.tariff.figures (price_for price q.0) localities points place q.0))) ≡ Ok d → Granted d
+  closing_granted : (d : Company × Cents) → when (tables_fit localities points) PastTable 0 (next (deciding o.register.companies o.register.number o.register.number place Close) (λ q. Ok (settling o.tariff.figures (price_for price q.0) localities points place q.0))) ≡ Ok d → Granted d
   closing_granted d granted =
       let fit = when_granted (tables_fit localities points) _ _ _ d granted in
-      let q = next_granted (deciding o.companies o.number o.number place Close) _ d fit.1 in
+      let q = next_granted (deciding o.register.companies o.register.number o.register.number place Close) _ d fit.1 in
       let in_table = when_granted (ltb place 16) _ _ _ q.0 q.1 in
-      let g = event_granted (Some o) o.number place Close q.0 q.1 in
+      let g = event_granted (Some o) o.register.number place Close q.0 q.1 in
       let is : d ≡ settling o.tariff.figures (price_for price q.0.0) localities points place q.0.0 = sym (same _ d q.2) in
       let amount : d.1 ≡ owed g.c = ap (λ (x : Company × Cents). x.1) is ∙ ap owed g.after in
       record {
         c = g.c;
         stood = g.stood;
         free = none_out g.c.phase q.0.1 g.answer;
-        told = told_of (tables_fit localities points) (ltb place 16) (company_at o.companies place) place owed g.c fit.0 in_table.0 g.stood ∙ ap Ok (sym amount);
+        told = told_of (tables_fit localities points) (ltb place 16) (company_at o.register.companies place) place owed g.c fit.0 in_table.0 g.stood ∙ ap Ok (sym amount);
         amount = amount;
         after = ap (λ (x : Company × Cents). x.0) is ∙ ap (λ (c : Company). settled c (settles c)) g.after;
       }
@@ -86,7 +89,7 @@ close_of_open o b localities points company d granted =
       stands = company_put (Some o) company g.c d.0 g.stood;
       company = record { free = g.free; closed = ap (λ (c : Company). c.phase) g.after; terms = ap (λ (c : Company). c.terms) g.after; paid = ap (λ (c : Company). c.paid) g.after; balances = balances };
       others = others_put (Some o) company d.0;
-      now = record { tariff = o.tariff; number = o.number; sum = o.sum; companies = slice_set o.companies company (Some d.0) };
+      now = with_register o (with_company o.register company d.0);
       opened = refl;
       tariff = refl;
       number = refl;

@@ -1,36 +1,29 @@
 -- What a granted confirming leaves.
-use Rattle.std.proofs.Common.{◌≡◌, ℕ, ◌+◌, ◌-◌, List, ◌+ℤ◌, ◌-ℤ◌, Some, Option, sym, ap, ◌∙◌, arith}
+use Rattle.std.proofs.Common.{◌≡◌, ℕ, ◌+◌, List, ◌-ℤ◌, Some, Option, sym, ap, ◌∙◌, arith}
 use borrow.Author.Differences.{ints}
 use Rattle.tables.specs.declared.rows.PointRow.{PointRow}
 use Rattle.journal.specs.Appending.{append_answer}
 use Rattle.company.specs.declared.record.Company.{Company}
 use Rattle.company.specs.declared.record.Event.TheVariants.{Confirm}
-use Rattle.company.specs.Instalments.{paid_up_to, instalment}
 use Rattle.book.specs.declared.opened.Opened.{Opened}
 use Rattle.book.specs.States.{put}
-use Rattle.book.specs.Companies.{amount_paid, decided}
-use Rattle.book.specs.Questions.{paid_out}
+use Rattle.orders.specs.Payments.{amount_paid}
+use Rattle.book.specs.Companies.{decided}
 use Rattle.book.specs.Laws.{company_in, account_in, ConfirmLaw}
-use Rattle.book.proofs.Granted.{both_granted}
-use Rattle.book.proofs.Events.{GrantedEvent, event_granted, account_put, company_put}
+use Rattle.units.proofs.Granted.{both_granted}
+use Rattle.orders.proofs.PaidLaw.{gains}
+use Rattle.orders.proofs.Events.{GrantedEvent}
+use Rattle.book.proofs.Events.{event_granted, account_put, company_put}
 use Rattle.book.proofs.Noting.{no_change, its_advance, others_advances, its_payment}
 
-module _ (opened : Option Opened) (place j : ℕ) (d : Company × ℕ) (g : GrantedEvent opened place (Confirm j) d) where
-  -- what the company is paid out grows by the instalment
-  gains : d.1 ≡ g.c.paid + 1 → paid_out (Some d.0) ≡ paid_out (Some g.c) +ℤ (amount_paid d).0
-  gains next =
-      let new = ap (λ (c : Company). paid_out (Some c)) g.after in
-      let amount = ap (λ (c : Company). instalment c.terms.figures.advance c.terms.figures.instalments d.1) g.after in
-      let before : d.1 - 1 ≡ g.c.paid = omega arith in
-      let old = ap (paid_up_to g.c.terms.figures.advance g.c.terms.figures.instalments) before in
-      omega (arith, ints)
-
+module _ (opened : Option Opened) (place j : ℕ) (d : Company × ℕ) (g : GrantedEvent (company_in opened place) (Confirm j) d) where
   account_loses : (c : Company) → company_in opened place ≡ Some c → d.1 ≡ c.paid + 1 → (points : List PointRow) → account_in (put opened place d.0) points ≡ account_in opened points -ℤ (amount_paid d).0
   account_loses c stood next points =
       let same : g.c ≡ c = cc in
-      let more = gains (next ∙ ap (λ (x : Company). x.paid + 1) (sym same)) in
+      let more = gains g.c d.0 j d.1 g.after (next ∙ ap (λ (x : Company). x.paid + 1) (sym same)) in
+      let balances = ap (λ (x : Company). x.balances) g.after in
       let account = account_put opened place g.c d.0 points g.stood in
-      omega (arith, ints)
+      omega (arith, ints, more, balances, account)
 
 pub confirm_law : ConfirmLaw
 confirm_law b o d granted =

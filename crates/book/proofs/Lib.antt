@@ -1,5 +1,3 @@
-pub mod OrderLaws
-pub mod Granted
 pub mod Events
 pub mod Noting
 pub mod ConfirmLaw

@@ -8,7 +8,7 @@ use Rattle.journal.specs.declared.entry.Entry.{Entry}
 use Rattle.rounding.specs.Sums.{sum_z}
 use Rattle.rounding.proofs.SumLaws.{sum_z_push}
 use Rattle.calls.specs.declared.billing.Charged.{Charged}
-use Rattle.book.specs.Companies.{advance_entry}
+use Rattle.orders.specs.Payments.{advance_entry}
 use Rattle.book.specs.Closings.{balance_entry}
 use Rattle.book.specs.Rows.{bill_entry}
 use Rattle.book.specs.JournalSums.{change_at, advance_in, advances_of, payment_in, payments, Advanced}

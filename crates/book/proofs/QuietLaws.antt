@@ -24,17 +24,24 @@ use Rattle.company.specs.Events.{new_company, moved as company_moved, paid_after
 use Rattle.company.specs.Instalments.{paid_up_to}
 use Rattle.company.proofs.Instalments.{none_paid}
 use Rattle.calls.specs.declared.enrolling.Enrolment.{Enrolment}
-use Rattle.calls.specs.Decisions.{Companies, company_at, after_event, registering, enrolled_within, tables_fit, enrolling as enrolling_in}
+use Rattle.orders.specs.Registers.{Companies, company_at, after_event, registering}
+use Rattle.tables.specs.Lengths.{tables_fit}
+use Rattle.calls.specs.Decisions.{enrolled_within, enrolling as enrolling_in}
 use Rattle.book.specs.declared.opened.Opened.{Opened}
-use Rattle.book.specs.States.{BookState, when_open, put}
+use Rattle.book.specs.States.{BookState, when_open, altered, put}
 use Rattle.book.specs.Companies.{registered, registered_by, number_of, decided, drawing, cancelling, sending, bouncing, moved}
 use Rattle.book.specs.Closings.{reopening}
 use Rattle.book.specs.Rows.{enrolling}
 use Rattle.book.specs.Tables.{written}
 use Rattle.book.specs.Questions.{paid_out}
 use Rattle.book.specs.Laws.{account_in, Quiet, QuietLaws}
-use Rattle.book.proofs.Granted.{when_granted, found_granted, both_granted, same}
+use Rattle.units.proofs.Granted.{when_granted, found_granted, both_granted, same}
 use Rattle.book.proofs.Events.{event_granted, account_put}
+
+-- a refused call alters nothing of what is on record
+unaltered : (opened : Option Opened) → altered opened (λ r. r) ≡ opened
+unaltered None = refl
+unaltered (Some o) = refl
 
 -- ---- An event of a company, after which as many instalments are paid as before
 module _ (e : Event) (paid_stays : (paid k : ℕ) → paid_after paid e k ≡ paid) where
@@ -48,7 +55,7 @@ module _ (e : Event) (paid_stays : (paid k : ℕ) → paid_after paid e k ≡ pa
       let account = account_put b.opened place g.c d.0 points g.stood in
       let same : paid_out (Some d.0) ≡ paid_out (Some g.c) = ap (λ (c : Company). paid_out (Some c)) g.after ∙ paid_out_stays g.c d.1 in
       record { entries = refl; account = omega (arith, ints, account, same) }
-  event_quiet b points number place (Err refused) answered = record { entries = refl; account = refl }
+  event_quiet b points number place (Err refused) answered = record { entries = refl; account = ap (λ (o : Option Opened). account_in o points) (unaltered b.opened) }
 
 -- ---- A new company
 pub none_there : {A : Type 0} (there : Option A) → not (is_some there) ≡ true → there ≡ None
@@ -69,18 +76,18 @@ sum_stays companies place new none nothing =
     (λ past. ap (sum_z paid_out) (set_past companies place (Some new) past))
     (cases_lt place (length companies))
 
-registering_account : (opened : Option Opened) (points : List PointRow) (place : ℕ) (figures : TermsFigures) (terms : Terms) → when_open opened (λ o. registering o.companies place figures) ≡ Ok terms → account_in (put opened place (new_company terms)) points ≡ account_in opened points
+registering_account : (opened : Option Opened) (points : List PointRow) (place : ℕ) (figures : TermsFigures) (terms : Terms) → when_open opened (λ o. registering o.register.companies place figures) ≡ Ok terms → account_in (put opened place (new_company terms)) points ≡ account_in opened points
 registering_account None points place figures terms granted = cc
 registering_account (Some o) points place figures terms granted =
     let in_table = when_granted (ltb place 16) _ _ _ terms granted in
-    let free = when_granted (not (is_some (company_at o.companies place))) _ _ _ terms in_table.1 in
-    let stays = sum_stays o.companies place (new_company terms) (none_there (company_at o.companies place) free.0) (nothing_paid terms) in
+    let free = when_granted (not (is_some (company_at o.register.companies place))) _ _ _ terms in_table.1 in
+    let stays = sum_stays o.register.companies place (new_company terms) (none_there (company_at o.register.companies place) free.0) (nothing_paid terms) in
     omega (arith, ints, stays)
 
 registering_quiet : (b : BookState) (points : List PointRow) (place : ℕ) (figures : TermsFigures) (answer : Result Terms Refusal) → registered b place figures ≡ answer → Quiet b (registered_by b place answer) points points
 registering_quiet b points place figures (Ok terms) granted =
     record { entries = refl; account = registering_account b.opened points place figures terms granted }
-registering_quiet b points place figures (Err refused) answered = record { entries = refl; account = refl }
+registering_quiet b points place figures (Err refused) answered = record { entries = refl; account = ap (λ (o : Option Opened). account_in o points) (unaltered b.opened) }
 
 -- ---- A new point
 pub not_standing : (stands : Bool) (row : PointRow) → not (is_some (cond stands (Some row) None)) ≡ true → stands ≡ false
@@ -110,14 +117,14 @@ unbilled locality class domestic row granted =
     let of_use = when_granted _ _ _ _ row of_class.1 in
     sym (ap (λ (p : PointRow). p.volume) (same _ row of_use.1))
 
-enrolling_account : (opened : Option Opened) (localities : List LocalityRow) (points : List PointRow) (point : ℕ) (e : Enrolment) (row : PointRow) → when_open opened (λ o. enrolling_in o.companies localities points point e.locality e.class e.domestic) ≡ Ok row → account_in opened (set points point row) ≡ account_in opened points
+enrolling_account : (opened : Option Opened) (localities : List LocalityRow) (points : List PointRow) (point : ℕ) (e : Enrolment) (row : PointRow) → when_open opened (λ o. enrolling_in o.register.companies localities points point e.locality e.class e.domestic) ≡ Ok row → account_in opened (set points point row) ≡ account_in opened points
 enrolling_account None localities points point e row granted = cc
 enrolling_account (Some o) localities points point e row granted =
     let fit = when_granted (tables_fit localities points) _ _ _ row granted in
     let point_in = when_granted (ltb point (length points)) _ _ _ row fit.1 in
     let locality_in = when_granted (ltb e.locality (length localities)) _ _ _ row point_in.1 in
     let locality = found_granted (locality_at localities e.locality) _ _ row locality_in.1 in
-    let company = found_granted (company_at o.companies locality.0.company) _ _ row locality.2 in
+    let company = found_granted (company_at o.register.companies locality.0.company) _ _ row locality.2 in
     let free = when_granted (not (is_some (point_at points point))) _ _ _ row company.2 in
     let new = both_granted (enrolled_within e.locality e.class e.domestic) (after_event company.0 locality.0.company Enrol) row free.1 in
     let nothing = unbilled e.locality e.class e.domestic row new in

@@ -8,12 +8,13 @@ use Rattle.calls.specs.declared.call.Call.{Call}
 use Rattle.calls.specs.declared.call.Call.TheVariants as call
 use Rattle.calls.specs.declared.call.Question.{Question}
 use Rattle.calls.specs.declared.call.Question.TheVariants as question
-use Rattle.calls.specs.Steps.{next}
+use Rattle.units.specs.Steps.{next}
 use Rattle.book.specs.declared.answer.Granted.{Granted}
 use Rattle.book.specs.declared.answer.Granted.TheVariants as granted
 use Rattle.book.specs.States.{BookState}
 use Rattle.book.specs.Tables.{written, billed_row}
-use Rattle.book.specs.Companies.{registered, registered_by, number_of, drawing, cancelling, sending, confirming, bouncing, moved, confirmed_by, amount_paid}
+use Rattle.orders.specs.Payments.{amount_paid}
+use Rattle.book.specs.Companies.{registered, registered_by, number_of, drawing, cancelling, sending, confirming, bouncing, moved, confirmed_by}
 use Rattle.book.specs.Rows.{filing, enrolling, billing, bill_of, billed_by}
 use Rattle.book.specs.Questions as asked
 use Rattle.book.specs.Closings.{closing, balance_of, closed_by, reopening}

@@ -1,47 +1,16 @@
--- Which companies are closed, as a list. It is not said which of them stands at which place.
-use Rattle.std.specs.Prelude.{◌≡◌, ◌≢◌, ℕ, ◌<◌, ◌≤◌, IsOkAnd, Bool, true, false, IsTrue, List, length, slice_index, Some, None, Ok, Err, Option, Result, nat_le}
-use Rattle.units.specs.declared.refusal.Reason.TheVariants.{PastTable}
+-- The list of closed companies, asked of a book.
+use Rattle.std.specs.Prelude.{◌≡◌, ℕ, List, Some, None, Err, Option, Result}
+use Rattle.units.specs.declared.refusal.Reason.TheVariants.{BookNotOpen}
 use Rattle.units.specs.declared.refusal.Refusal.{Refusal}
-use Rattle.company.specs.declared.record.Company.{Company}
-use Rattle.company.specs.declared.record.Phase.{Phase}
-use Rattle.company.specs.declared.record.Phase.TheVariants.{Closed}
-use Rattle.calls.specs.Decisions.{company_at}
-use Rattle.calls.specs.Steps.{when}
+use Rattle.units.specs.Refusals.{refusal}
+use Rattle.orders.specs.ClosedLists as register
 use Rattle.book.specs.declared.opened.Opened.{Opened}
-use Rattle.book.specs.States.{BookState, when_open}
+use Rattle.book.specs.States.{BookState}
 
-abbrev pub closed_phase : Phase → Bool
-closed_phase Closed = true
-closed_phase other = false
+-- 2 while the book is not open, which writes nothing; then what its register lists
+abbrev pub ListedIn : Option Opened → (old new : List ℕ) → Result ℕ Refusal → Type 0
+ListedIn None old new answer = (answer ≡ Err (refusal BookNotOpen 0)) × (new ≡ old)
+ListedIn (Some o) old new answer = register.Listed o.register.companies old new answer
 
-abbrev pub is_closed : Option Company → Bool
-is_closed None = false
-is_closed (Some c) = closed_phase c.phase
-
--- a company stands at the place, and it is closed
-abbrev pub closed_at : Opened → (company : ℕ) → Bool
-closed_at o company = is_closed (company_at o.companies company)
-
--- the new list names the n closed companies
-pub record Lists (o : Opened) (old new : List ℕ) (n : ℕ) : Type 0 where
-  -- each of the first n places names a closed company
-  pub closed : (place : ℕ) → place < n → IsTrue (closed_at o (slice_index new place))
-  -- no two of them name the same
-  pub once : (place later : ℕ) → place < later → later < n → slice_index new place ≢ slice_index new later
-  -- each closed company is named by one of them
-  pub every : (company : ℕ) → IsTrue (closed_at o company) → (place : ℕ) × (place < n) × (slice_index new place ≡ company)
-  -- they are at most sixteen
-  pub few : n ≤ 16
-  -- the list's length stays
-  pub as_long : length new ≡ length old
-  -- every place from n on stays
-  pub others : (place : ℕ) → n ≤ place → slice_index new place ≡ slice_index old place
-
--- whose companies are listed: 2 while the book is not open, then 4 for a list of fewer than sixteen places
-abbrev pub listing : BookState → List ℕ → Result Opened Refusal
-listing b list = when_open b.opened (λ o. when (nat_le 16 (length list)) PastTable 0 (Ok o))
-
--- what the list is then, and what is answered: how many closed companies it names, or the refusal, which writes nothing
 abbrev pub Listed : BookState → (old new : List ℕ) → Result ℕ Refusal → Type 0
-Listed b old new (Ok n) = IsOkAnd (listing b old) (λ o. Lists o old new n)
-Listed b old new (Err refused) = (listing b old ≡ Err refused) × (new ≡ old)
+Listed b old new answer = ListedIn b.opened old new answer

@@ -1,5 +1,5 @@
 -- What closing a company's year and reopening it meet, and what they leave.
-use Rattle.std.specs.Prelude.{ℕ, List, ℤ, pos, Ok, Err, Result}
+use Rattle.std.specs.Prelude.{ℕ, List, pos, Ok, Err, Result}
 use Rattle.units.specs.declared.amounts.Cents.{Cents}
 use Rattle.units.specs.declared.refusal.Reason.TheVariants.{PastTable}
 use Rattle.units.specs.declared.refusal.Refusal.{Refusal}
@@ -10,15 +10,13 @@ use Rattle.tables.specs.declared.rows.PointRow.{PointRow}
 use Rattle.tariff.specs.declared.figures.TariffFigures.{TariffFigures}
 use Rattle.company.specs.declared.record.Company.{Company}
 use Rattle.company.specs.declared.record.Event.TheVariants.{Close, Reopen}
-use Rattle.calls.specs.Decisions.{tables_fit, deciding}
-use Rattle.calls.specs.Steps.{when, next}
+use Rattle.orders.specs.Registers.{deciding}
+use Rattle.tables.specs.Lengths.{tables_fit}
+use Rattle.units.specs.Steps.{when, next}
+use Rattle.orders.specs.Orders.{settled}
 use Rattle.book.specs.States.{BookState, when_open, in_room, noted, with_company}
 use Rattle.book.specs.Companies.{number_of, decided}
 use Rattle.book.specs.Questions.{settlement, due, price_for}
-
--- a closed company's balances come to its settlement
-abbrev pub settled : Company → ℤ → Company
-settled c z = record { terms = c.terms; paid = c.paid; phase = c.phase; balances = z }
 
 -- the company after its closing, and the balance due
 abbrev pub settling : TariffFigures → (price : ℕ) → List LocalityRow → List PointRow → (company : ℕ) → Company → Company × Cents
@@ -31,7 +29,7 @@ abbrev pub closing : BookState → List LocalityRow → List PointRow → (compa
 closing b localities points company =
     in_room b (when_open b.opened (λ o.
     when (tables_fit localities points) PastTable 0
-    (next (deciding o.companies o.number o.number company Close) (λ d.
+    (next (deciding o.register.companies o.register.number o.register.number company Close) (λ d.
     Ok (settling o.tariff.figures (price_for b.price d.0) localities points company d.0)))))
 
 -- what closing answers: the balance

@@ -13,21 +13,18 @@ use Rattle.revenue.specs.Ug1.{point_ug1}
 use Rattle.revenue.specs.Gs.{point_gs}
 use Rattle.company.specs.declared.figures.TermsFigures.{TermsFigures}
 use Rattle.company.specs.declared.record.Company.{Company}
-use Rattle.company.specs.declared.record.Event.{Event}
-use Rattle.company.specs.declared.record.Event.TheVariants.{File, Enrol, Bill, Draw, Cancel, Send, Confirm, Bounce}
-use Rattle.company.specs.declared.record.Phase.{Phase}
-use Rattle.company.specs.declared.record.Phase.TheVariants.{Free, Drawn, Sent, Closed}
-use Rattle.company.specs.Events.{act_answer, act_after}
+use Rattle.company.specs.declared.record.Phase.TheVariants.{Free, Closed}
 use Rattle.calls.specs.declared.billing.Charged.{Charged}
 use Rattle.calls.specs.declared.call.Call.{Call}
 use Rattle.calls.specs.declared.call.Call.TheVariants as call
-use Rattle.calls.specs.declared.call.Order.{Order}
+use Rattle.orders.specs.declared.order.Order.{Order}
 use Rattle.calls.specs.declared.call.Question.{Question}
 use Rattle.calls.specs.declared.enrolling.Enrolment.{Enrolment}
-use Rattle.calls.specs.Decisions.{company_at}
+use Rattle.orders.specs.Registers.{company_at}
 use Rattle.book.specs.declared.opened.Opened.{Opened}
 use Rattle.book.specs.States.{BookState}
-use Rattle.book.specs.Companies.{confirming, confirmed_by, amount_paid}
+use Rattle.orders.specs.Payments.{amount_paid}
+use Rattle.book.specs.Companies.{confirming, confirmed_by}
 use Rattle.book.specs.Closings.{closing, closed_by}
 use Rattle.book.specs.Questions.{account_of, balance_due}
 use Rattle.book.specs.Rows.{billing, bill_of, billed_by}
@@ -40,7 +37,7 @@ use Rattle.book.specs.Calls.{State, after_call}
 -- the company at a place; none while the book is not open
 abbrev pub company_in : Option Opened → (place : ℕ) → Option Company
 company_in None place = None
-company_in (Some o) place = company_at o.companies place
+company_in (Some o) place = company_at o.register.companies place
 
 -- the account with these points; 0 while the book is not open
 abbrev pub account_in : Option Opened → List PointRow → ℤ
@@ -54,48 +51,6 @@ AccountLoses before after amount = (points : List PointRow) → account_in after
 -- the row of a point, the blank row past the table
 abbrev pub row_of : List PointRow → (point : ℕ) → PointRow
 row_of points point = slice_index_or points point no_point
-
--- ---- Orders
-
--- how many orders of a company are out
-abbrev pub outs : Phase → ℕ
-outs Free = 0
-outs (Drawn k) = 1
-outs (Sent k) = 1
-outs Closed = 0
-
--- where the event is granted, m orders are out before it and n after it
-abbrev pub Takes : Company → Event → (m n : ℕ) → Type 0
-Takes c e m n = (k : ℕ) → act_answer c e ≡ Ok k → (outs c.phase ≡ m) × (outs (act_after c e).phase ≡ n)
-
--- where the event is granted, as many orders are out as before
-abbrev pub Keeps : Company → Event → Type 0
-Keeps c e = (k : ℕ) → act_answer c e ≡ Ok k → outs (act_after c e).phase ≡ outs c.phase
-
-pub record OrderLaws : Type 0 where
-  -- a draw brings an order out where none was
-  pub drawing : (c : Company) → Takes c Draw 0 1
-  -- cancelling it takes it back
-  pub cancelling : (c : Company) (j : ℕ) → Takes c (Cancel j) 1 0
-  -- a sent order stays out
-  pub sending : (c : Company) (j : ℕ) → Takes c (Send j) 1 1
-  -- until it is confirmed or bounced
-  pub confirming : (c : Company) (j : ℕ) → Takes c (Confirm j) 1 0
-  pub bouncing : (c : Company) (j : ℕ) → Takes c (Bounce j) 1 0
-  -- no other event brings an order out or back
-  pub filing : (c : Company) → Keeps c File
-  pub enrolling : (c : Company) → Keeps c Enrol
-  pub billing : (c : Company) → Keeps c Bill
-  -- no order of a closed company is out
-  pub closed : (c : Company) → c.phase ≡ Closed → outs c.phase ≡ 0
-  -- a draw is for the instalment after those that are paid, and the order is drawn for it
-  pub drawn : (c : Company) (k : ℕ) → act_answer c Draw ≡ Ok k → (k ≡ c.paid + 1) × ((act_after c Draw).phase ≡ Drawn k)
-  -- an order that is cancelled or sent was drawn, and for the instalment that is answered
-  pub cancelled : (c : Company) (j k : ℕ) → act_answer c (Cancel j) ≡ Ok k → (j ≡ k) × (c.phase ≡ Drawn k)
-  pub sent : (c : Company) (j k : ℕ) → act_answer c (Send j) ≡ Ok k → (j ≡ k) × (c.phase ≡ Drawn k)
-  -- an order that is confirmed or bounced was sent, and for the instalment that is answered
-  pub confirmed : (c : Company) (j k : ℕ) → act_answer c (Confirm j) ≡ Ok k → (j ≡ k) × (c.phase ≡ Sent k)
-  pub bounced : (c : Company) (j k : ℕ) → act_answer c (Bounce j) ≡ Ok k → (j ≡ k) × (c.phase ≡ Sent k)
 
 -- ---- Confirming
 
@@ -248,7 +203,7 @@ pub record YearClosed (localities : List LocalityRow) (points : List PointRow) (
   pub now : Opened
   pub opened : after.opened ≡ Some now
   pub tariff : now.tariff ≡ o.tariff
-  pub number : now.number ≡ o.number
+  pub number : now.register.number ≡ o.register.number
   pub sum : now.sum ≡ o.sum
   -- what was due is one of the payments, and the account loses it
   pub payment : payments after.entries ≡ payments before.entries +ℤ due.0

@@ -1,12 +1,13 @@
 -- What opening a book meets, and what it leaves.
-use Rattle.std.specs.Prelude.{ℕ, not, List, length, ℤ, is_some, Some, None, Ok, Err, Result, ◌==◌, nat_le, replicate, unsigned_abs}
+use Rattle.std.specs.Prelude.{ℕ, not, List, length, ℤ, is_some, Some, Ok, Err, Result, ◌==◌, nat_le, replicate, unsigned_abs}
 use Rattle.units.specs.declared.refusal.Reason.TheVariants.{BookInUse, PastTable, FigureLimit}
 use Rattle.units.specs.declared.refusal.Refusal.{Refusal}
 use Rattle.tariff.specs.declared.table.Tariff.{Tariff}
 use Rattle.tables.specs.declared.rows.LocalityRow.{LocalityRow}
 use Rattle.tables.specs.declared.rows.PointRow.{PointRow}
-use Rattle.calls.specs.Decisions.{tables_fit}
-use Rattle.calls.specs.Steps.{when, next}
+use Rattle.orders.specs.Registers.{empty_register}
+use Rattle.tables.specs.Lengths.{tables_fit}
+use Rattle.units.specs.Steps.{when, next}
 use Rattle.book.specs.States.{BookState, with_opened}
 
 -- whether the book can still be opened: 3 where it is open, then 3 where its journal has an entry
@@ -29,7 +30,7 @@ opening b number sum localities points =
 -- a granted opening leaves the tariff table, the number, the sum and sixteen places without a company on record
 abbrev pub opened_by : BookState → Tariff → (number : ℕ) → (sum : ℤ) → Result (Unit {0}) Refusal → BookState
 opened_by b tariff number sum (Ok done) =
-    with_opened b (Some (record { tariff = tariff; number = number; sum = sum; companies = replicate 16 None }))
+    with_opened b (Some (record { tariff = tariff; sum = sum; register = empty_register number }))
 opened_by b tariff number sum (Err refused) = b
 
 -- and every row of a lent table blank

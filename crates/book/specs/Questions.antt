@@ -9,7 +9,7 @@ use Rattle.tables.specs.declared.rows.LocalityRow.{LocalityRow}
 use Rattle.tables.specs.declared.rows.PointRow.{PointRow}
 use Rattle.tables.specs.declared.service.Service.{Service}
 use Rattle.tables.specs.declared.state.State.TheVariants.{Regime, StartUp}
-use Rattle.tables.specs.Costs as cost
+use Rattle.costs.specs.Costs as cost
 use Rattle.revenue.specs.declared.parts.Revenue.{Revenue}
 use Rattle.revenue.specs.Billed.{billed}
 use Rattle.revenue.specs.Served.{served as served_in}
@@ -17,8 +17,10 @@ use Rattle.revenue.specs.Recognised.{recognised, recognised_revenue}
 use Rattle.revenue.specs.Ug1.{ug1_due}
 use Rattle.company.specs.declared.record.Company.{Company}
 use Rattle.company.specs.Events.{advances}
-use Rattle.calls.specs.Decisions.{tables_fit, asked_locality, asked_company}
-use Rattle.calls.specs.Steps.{when, next}
+use Rattle.orders.specs.Registers.{asked_company}
+use Rattle.tables.specs.Lengths.{tables_fit}
+use Rattle.calls.specs.Decisions.{asked_locality}
+use Rattle.units.specs.Steps.{when, next}
 use Rattle.book.specs.declared.opened.Opened.{Opened}
 use Rattle.book.specs.States.{BookState, when_open}
 
@@ -37,13 +39,13 @@ unit_component b localities place service =
 
 -- how the company at a place stands
 abbrev pub company : BookState → (place : ℕ) → Result Company Refusal
-company b place = when_open b.opened (λ o. asked_company o.companies place)
+company b place = when_open b.opened (λ o. asked_company o.register.companies place)
 
 -- a figure of the company that is asked about: 4 for a table too long, then 4 and 5 for the company
 abbrev pub asked : {X : Type 0} → Opened → List LocalityRow → List PointRow → (company : ℕ) → (Company → X) → Result X Refusal
 asked o localities points company figure =
     when (tables_fit localities points) PastTable 0
-    (next (asked_company o.companies company) (λ c. Ok (figure c)))
+    (next (asked_company o.register.companies company) (λ c. Ok (figure c)))
 
 -- the points served in regime and in start-up, in thousandths
 abbrev pub served_of : Opened → List LocalityRow → List PointRow → (company : ℕ) → Company → ℕ × ℕ
@@ -92,7 +94,7 @@ paid_out (Some c) = advances c +ℤ c.balances
 
 -- what the account was opened with and line 6 of the points brought, without what was paid out
 abbrev pub account_of : Opened → List PointRow → ℤ
-account_of o points = o.sum +ℤ pos (ug1_due o.tariff.figures points) -ℤ sum_z paid_out o.companies
+account_of o points = o.sum +ℤ pos (ug1_due o.tariff.figures points) -ℤ sum_z paid_out o.register.companies
 
 abbrev pub account : BookState → List PointRow → Result Cents Refusal
 account b points =

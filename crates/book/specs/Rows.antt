@@ -9,20 +9,20 @@ use Rattle.tariff.specs.declared.bill.Bill.{Bill}
 use Rattle.calls.specs.declared.billing.Charged.{Charged}
 use Rattle.calls.specs.declared.enrolling.Enrolment.{Enrolment}
 use Rattle.calls.specs.Decisions as decision
-use Rattle.calls.specs.Steps.{next}
+use Rattle.units.specs.Steps.{next}
 use Rattle.book.specs.States.{BookState, when_open, in_room, noted}
 
 abbrev pub filing : BookState → List LocalityRow → (place : ℕ) → LocalityRow → Result LocalityRow Refusal
-filing b localities place row = when_open b.opened (λ o. decision.filing o.companies localities place row)
+filing b localities place row = when_open b.opened (λ o. decision.filing o.register.companies localities place row)
 
 abbrev pub enrolling : BookState → List LocalityRow → List PointRow → (point : ℕ) → Enrolment → Result PointRow Refusal
 enrolling b localities points point e =
-    when_open b.opened (λ o. decision.enrolling o.companies localities points point e.locality e.class e.domestic)
+    when_open b.opened (λ o. decision.enrolling o.register.companies localities points point e.locality e.class e.domestic)
 
 -- a bill is an entry of the journal, so that it needs room
 abbrev pub billing : BookState → List LocalityRow → List PointRow → (point : ℕ) → (volume days : ℤ) → Result Charged Refusal
 billing b localities points point volume days =
-    in_room b (when_open b.opened (λ o. decision.billing o.tariff.figures o.companies localities points point volume days))
+    in_room b (when_open b.opened (λ o. decision.billing o.tariff.figures o.register.companies localities points point volume days))
 
 -- what a bill answers
 abbrev pub bill_of : Result Charged Refusal → Result Bill Refusal

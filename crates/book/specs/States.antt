@@ -1,5 +1,5 @@
 -- What stands in a book, and how a call goes on by it.
-use Rattle.std.specs.Prelude.{ℕ, List, [], ◌∷◌, ◌++◌, Some, None, Ok, Err, Option, Result, slice_set}
+use Rattle.std.specs.Prelude.{ℕ, List, [], ◌∷◌, ◌++◌, Some, None, Ok, Err, Option, Result}
 use Rattle.units.specs.declared.refusal.Reason.TheVariants.{BookNotOpen}
 use Rattle.units.specs.declared.refusal.Refusal.{Refusal}
 use Rattle.units.specs.Refusals.{refusal}
@@ -8,7 +8,9 @@ use Rattle.journal.specs.declared.kept.Journal.{Ghosts as Journal}
 use Rattle.journal.specs.Appending.{append_answer}
 use Rattle.management.specs.declared.rule.Management.{Ghosts as Management}
 use Rattle.company.specs.declared.record.Company.{Company}
-use Rattle.calls.specs.Steps.{next}
+use Rattle.units.specs.Steps.{next}
+use Rattle.orders.specs.declared.register.Register.{Register}
+use Rattle.orders.specs.Registers.{with_company as with_company_at}
 use Rattle.book.specs.declared.book.Book.{Book}
 use Rattle.book.specs.declared.opened.Opened.{Opened}
 
@@ -41,10 +43,18 @@ with_opened b opened = record { opened = opened; entries = b.entries; room = b.r
 abbrev pub noted : BookState → Entry → BookState
 noted b e = record { opened = b.opened; entries = b.entries ++ e ∷ []; room = b.room; price = b.price }
 
--- the record with a company at a place
+-- the record with another register
+abbrev pub with_register : Opened → Register → Opened
+with_register o register = record { tariff = o.tariff; sum = o.sum; register = register }
+
+-- what is on record with its register altered
+abbrev pub altered : Option Opened → (Register → Register) → Option Opened
+altered None alter = None
+altered (Some o) alter = Some (with_register o (alter o.register))
+
+-- with a company at a place of it
 abbrev pub put : Option Opened → (place : ℕ) → Company → Option Opened
-put None place c = None
-put (Some o) place c = Some (record { tariff = o.tariff; number = o.number; sum = o.sum; companies = slice_set o.companies place (Some c) })
+put opened place c = altered opened (λ r. with_company_at r place c)
 
 abbrev pub with_company : BookState → (place : ℕ) → Company → BookState
 with_company b place c = with_opened b (put b.opened place c)

@@ -1,5 +1,5 @@
 // What a call is answered, as plain numbers.
-use calls::call::Order;
+use orders::order::Order;
 use revenue::parts::Revenue;
 use tariff::bill::Bill;
 use units::amounts::{Cents, MilliPoints};

@@ -7,9 +7,9 @@ use management::rule::Management;
 
 mod closed;
 mod closing;
-mod obeys;
+mod instalments;
 mod opening;
-mod orders;
+mod performing;
 mod questions;
 mod registering;
 mod rows;

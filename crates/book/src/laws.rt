@@ -1,13 +1,5 @@
 // The laws of the book, on which the rules of a whole year rest.
-ghost use Rattle.book.specs.Laws.{OrderLaws, ConfirmLaw, QuietLaws, BillLaw, CloseLaw};
-
-/// At most one order of a company is out, and each event of it is for the instalment that it was drawn for.
-#[tactic(auto, using(crate::proofs::OrderLaws::order_laws))]
-pub fn order_laws() -> u8
-    ensures { OrderLaws }
-{
-    0
-}
+ghost use Rattle.book.specs.Laws.{ConfirmLaw, QuietLaws, BillLaw, CloseLaw};
 
 /// Confirming advances the order's instalment to its company, and nothing else moves in the journal. The account loses its amount.
 pub fn confirm_law() -> u8

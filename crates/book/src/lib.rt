@@ -3,8 +3,7 @@
 
 pub mod answer;
 pub mod book;
-mod costs;
+mod company_costs;
 pub mod laws;
 mod opened;
-pub mod order;
 mod settlement;

@@ -1,12 +1,13 @@
 // What an opened book has on record, beside its journal and the lent tables.
 ghost use Rattle.std.specs.Prelude.{◌≡◌, pos, neg_ℤ, ◌≤ℤ◌, IfOk, Ok, length, nat_le};
 ghost use Rattle.units.specs.declared.refusal.Reason.TheVariants.{PastTable};
-ghost use Rattle.calls.specs.Steps.{when};
+ghost use Rattle.units.specs.Steps.{when};
 ghost use Rattle.book.specs.Questions.{paid_out};
 ghost use Rattle.limits.specs.Checked.{made_of};
+ghost use Rattle.rounding.specs.Sums.{sum_z};
 
-use calls::asking::asked_company;
 use company::record::Company;
+use orders::register::{MOST_COMPANIES, Register};
 use revenue::lent::Tables;
 use revenue::served::Served;
 use tables::rows::{LocalityRow, PointRow};
@@ -17,15 +18,12 @@ use units::refusal::{Reason, Refusal};
 #[derive(Clone, Copy, Debug, PartialEq, Eq)]
 pub struct Opened {
     pub tariff: Tariff,
-    /// The book's number, which its orders carry.
-    pub number: u64,
     /// The account's opening sum, in cents.
     pub sum: i64,
-    pub companies: [Option<Company>; 16],
+    pub register: Register,
 }
 
 impl Opened {
-    ghost use Rattle.rounding.specs.Sums.{sum_z};
     ghost use Rattle.book.specs.Questions.{asked, served_of, account_of};
 
     // The company that is asked about, with the tables.
@@ -39,7 +37,7 @@ impl Opened {
         ensures tables { IfOk result (λ x. (x.0.localities.now ≡ localities.now) × (x.0.points.now ≡ points.now)) }
     {
         let tables = Tables::new(localities, points).ok_or(Reason::PastTable.at(0))?;
-        let found = asked_company(&self.companies, company)?;
+        let found = self.register.asked(company)?;
         Ok((tables, found))
     }
 
@@ -55,23 +53,11 @@ impl Opened {
         Ok(tables.served(&self.tariff, company))
     }
 
-    // What the account lost to all companies.
-    fn paid_out(&self) -> i128
-        ensures value { result ≡ sum_z paid_out self.now.companies }
-        ensures small { (result ≤ℤ pos 295147905179352825856) × (neg_ℤ (pos 295147905179352825856) ≤ℤ result) }
-    {
-        let mut sum = 0;
-        for slot in &self.companies {
-            sum += paid_out(slot);
-        }
-        sum
-    }
-
     fn account_with(&self, tables: Tables<'_>) -> Cents
         ensures { result.0 ≡ account_of self.now tables.entry.points.now }
     {
         let gained = i128::from(self.sum) + i128::from(tables.ug1(&self.tariff));
-        Cents(gained - self.paid_out())
+        Cents(gained - all_paid_out(&self.register.companies))
     }
 
     // The account with these points.
@@ -81,6 +67,18 @@ impl Opened {
         let tables = Tables::new(&[], points).ok_or(Reason::PastTable.at(0))?;
         Ok(self.account_with(tables))
     }
+}
+
+// What the account lost to all companies.
+fn all_paid_out(companies: &[Option<Company>; MOST_COMPANIES]) -> i128
+    ensures value { result ≡ sum_z paid_out companies.now }
+    ensures small { (result ≤ℤ pos 295147905179352825856) × (neg_ℤ (pos 295147905179352825856) ≤ℤ result) }
+{
+    let mut sum = 0;
+    for slot in companies {
+        sum += paid_out(slot);
+    }
+    sum
 }
 
 // What the account lost to a company.

@@ -1,22 +1,15 @@
 // What a company's year comes to.
 ghost use Rattle.std.specs.Prelude.{◌≡◌, pos, neg_ℤ, ◌≤ℤ◌};
-ghost use Rattle.book.specs.Closings.{settled};
 ghost use Rattle.book.specs.Questions as asked;
 
 use company::record::Company;
-use revenue::costs::Costs;
+use revenue::company_costs::Costs;
 use revenue::lent::Tables;
 use tariff::table::Tariff;
 use units::amounts::Cents;
 
-// The settlement of the company at a place, in cents: what its bills and advances leave of recognised revenue.
-fn settlement(
-    tariff: &Tariff,
-    costs: Costs,
-    tables: Tables<'_>,
-    place: u64,
-    company: &Company,
-) -> i128
+// What bills and advances leave of a company's recognised revenue, in cents.
+fn total(tariff: &Tariff, costs: Costs, tables: Tables<'_>, place: u64, company: &Company) -> i128
     requires verification { costs.verification ≡ company.now.terms.figures.verification }
     requires central { costs.central ≡ company.now.terms.figures.central }
     ensures value { result ≡ asked.settlement tariff.now.figures costs.operating.0 tables.entry.localities.now tables.entry.points.now place company.now }
@@ -26,37 +19,30 @@ fn settlement(
     year.revenue.total().0 - i128::from(year.billed) - company.advances().0
 }
 
-/// Settles a company: its balances come to its settlement. Answers the balance that was due.
+/// What closing a company would book, and what its balances would then come to.
+#[derive(Clone, Copy, Debug, PartialEq, Eq)]
+pub(crate) struct Settlement {
+    /// What of the settlement no closing has booked yet.
+    pub(crate) due: Cents,
+    pub(crate) balances: i64,
+}
+
+/// Settles the year of the company at a place.
 pub(crate) fn settle(
     tariff: &Tariff,
     costs: Costs,
     tables: Tables<'_>,
     place: u64,
-    company: &mut Company,
-) -> Cents
-    requires verification { costs.verification ≡ company.old.terms.figures.verification }
-    requires central { costs.central ≡ company.old.terms.figures.central }
-    ensures due { result ≡ asked.due tariff.now.figures costs.operating.0 tables.entry.localities.now tables.entry.points.now place company.old }
-    ensures after { company.new ≡ settled company.old (asked.settlement tariff.now.figures costs.operating.0 tables.entry.localities.now tables.entry.points.now place company.old) }
-{
-    let settlement = settlement(tariff, costs, tables, place, company);
-    let due = settlement - i128::from(company.balances);
-    company.balances = settlement as i64;
-    Cents(due)
-}
-
-/// The balance that is due: what of the settlement no closing has booked yet.
-pub(crate) fn due(
-    tariff: &Tariff,
-    costs: Costs,
-    tables: Tables<'_>,
-    place: u64,
     company: &Company,
-) -> Cents
+) -> Settlement
     requires verification { costs.verification ≡ company.now.terms.figures.verification }
     requires central { costs.central ≡ company.now.terms.figures.central }
-    ensures { result ≡ asked.due tariff.now.figures costs.operating.0 tables.entry.localities.now tables.entry.points.now place company.now }
+    ensures due { result.due ≡ asked.due tariff.now.figures costs.operating.0 tables.entry.localities.now tables.entry.points.now place company.now }
+    ensures balances { result.balances ≡ asked.settlement tariff.now.figures costs.operating.0 tables.entry.localities.now tables.entry.points.now place company.now }
 {
-    let settlement = settlement(tariff, costs, tables, place, company);
-    Cents(settlement - i128::from(company.balances))
+    let settlement = total(tariff, costs, tables, place, company);
+    Settlement {
+        due: Cents(settlement - i128::from(company.balances)),
+        balances: settlement as i64,
+    }
 }

@@ -6,7 +6,7 @@ use Rattle.tariff.specs.declared.supply.Change.{Change}
 use Rattle.calls.specs.declared.enrolling.Enrolment.{Enrolment}
 use Rattle.calls.specs.declared.call.Call.{Call}
 use Rattle.calls.specs.declared.call.Call.TheVariants as call
-use Rattle.calls.specs.declared.call.Order.{Order}
+use Rattle.orders.specs.declared.order.Order.{Order}
 use Rattle.calls.specs.declared.call.Question.{Question}
 use Rattle.calls.specs.declared.call.Question.TheVariants as question
 use Rattle.tables.specs.declared.service.Service.{Service}

@@ -4,9 +4,10 @@ ghost use Rattle.bookfile.specs.Calls.{call_of, terms_of, enrolment_of, bill_cha
 
 use crate::line::Line;
 use crate::statement::Statement;
-use calls::call::{Call, Order, Question};
+use calls::call::{Call, Question};
 use calls::enrolling::Enrolment;
 use company::figures::TermsFigures;
+use orders::order::Order;
 use tables::service::Service;
 use tariff::supply::Change;
 

@@ -1,53 +1,27 @@
--- What each call meets: what it is granted, or the first refusal that applies.
-use Rattle.std.specs.Prelude.{ℕ, Bool, not, ◌&&◌, List, length, ℤ, is_some, None, Ok, Option, Result, ◌==◌, nat_le, nat_lt, slice_index_or}
-use Rattle.units.specs.declared.refusal.Reason.TheVariants.{PastTable, PlaceTaken, FigureLimit, NotTheOrderOut}
+-- What the calls on lent tables meet: what each is granted, or the first refusal that applies.
+use Rattle.std.specs.Prelude.{ℕ, Bool, not, ◌&&◌, List, length, ℤ, is_some, Ok, Result, ◌==◌, nat_le, nat_lt}
+use Rattle.units.specs.declared.refusal.Reason.TheVariants.{PastTable, PlaceTaken, FigureLimit}
 use Rattle.units.specs.declared.refusal.Refusal.{Refusal}
 use Rattle.units.specs.Refusals.{refused_at}
+use Rattle.units.specs.Steps.{when, found, next}
 use Rattle.limits.specs.First.{among}
+use Rattle.limits.specs.Checked.{faultless}
 use Rattle.tariff.specs.declared.figures.TariffFigures.{TariffFigures}
 use Rattle.tariff.specs.Bills.{bill_at}
 use Rattle.tables.specs.declared.rows.LocalityRow.{LocalityRow}
 use Rattle.tables.specs.declared.rows.PointRow.{PointRow}
 use Rattle.tables.specs.Filings.{filing_fault}
+use Rattle.tables.specs.Lengths.{localities_fit, tables_fit}
 use Rattle.tables.specs.Lookups.{locality_at, point_at}
-use Rattle.company.specs.declared.figures.TermsFigures.{TermsFigures}
-use Rattle.company.specs.declared.record.Company.{Company}
-use Rattle.company.specs.declared.record.Event.{Event}
 use Rattle.company.specs.declared.record.Event.TheVariants.{File, Enrol, Bill as BillEvent}
-use Rattle.company.specs.declared.terms.Terms.{Terms}
-use Rattle.company.specs.Events.{act_answer, act_after}
-use Rattle.company.specs.Made.{terms_of}
-use Rattle.limits.specs.Checked.{faultless}
+use Rattle.orders.specs.Registers.{Companies, company_at, after_event}
 use Rattle.calls.specs.declared.billing.Charged.{Charged}
-use Rattle.calls.specs.Steps.{when, found, next}
-
--- the sixteen places of companies
-abbrev pub Companies : Type 0
-Companies = List (Option Company)
-
-abbrev pub company_at : Companies → ℕ → Option Company
-company_at companies place = slice_index_or companies place None
-
--- neither table is longer than it may be
-abbrev pub tables_fit : List LocalityRow → List PointRow → Bool
-tables_fit localities points = nat_le (length localities) 256 && nat_le (length points) 65536
-
--- registering a company: 4 past the sixteen, 6 where one is registered, 7 at the first bad figure
-abbrev pub registering : Companies → (company : ℕ) → TermsFigures → Result Terms Refusal
-registering companies company figures =
-    when (nat_lt company 16) PastTable company
-    (when (not (is_some (company_at companies company))) PlaceTaken company
-    (terms_of figures))
-
--- a company after an event, and the instalment that it is about
-abbrev pub after_event : Company → (company : ℕ) → Event → Result (Company × ℕ) Refusal
-after_event c company event = next (refused_at company (act_answer c event)) (λ k. Ok (act_after c event, k))
 
 -- filing a locality: 4 for a table too long, a place past it or a company past the sixteen, 5 for a company that is not registered, then
 -- 7 or 8 at the figure at fault, and 9 for a closed company
 abbrev pub filing : Companies → List LocalityRow → (place : ℕ) → LocalityRow → Result LocalityRow Refusal
 filing companies localities place row =
-    when (nat_le (length localities) 256) PastTable 0
+    when (localities_fit localities) PastTable 0
     (when (nat_lt place (length localities)) PastTable place
     (when (nat_lt row.company 16) PastTable row.company
     (found (company_at companies row.company) row.company (λ c.
@@ -96,24 +70,9 @@ abbrev pub billing : TariffFigures → Companies → List LocalityRow → List P
 billing t companies localities points point dv dd =
     next (seated companies localities points point) (λ seat. charged t seat.0 seat.1 point dv dd)
 
--- an event of a company, where the order that it names is of the book with this number: 4 past the sixteen, 5 where none is registered, 13 for
--- another book, then what the company answers
-abbrev pub deciding : Companies → (own number company : ℕ) → Event → Result (Company × ℕ) Refusal
-deciding companies own number company event =
-    when (nat_lt company 16) PastTable company
-    (found (company_at companies company) company (λ c.
-    when (number == own) NotTheOrderOut company
-    (after_event c company event)))
-
 -- the locality at a place, for a question: 4 for a table too long, then for the place, 5 where none stands
 abbrev pub asked_locality : List LocalityRow → (place : ℕ) → Result LocalityRow Refusal
 asked_locality localities place =
-    when (nat_le (length localities) 256) PastTable 0
+    when (localities_fit localities) PastTable 0
     (when (nat_lt place (length localities)) PastTable place
     (found (locality_at localities place) place (λ l. Ok l)))
-
--- the company at a place, for a question: 4 past the sixteen, 5 where none is registered
-abbrev pub asked_company : Companies → (company : ℕ) → Result Company Refusal
-asked_company companies company =
-    when (nat_lt company 16) PastTable company
-    (found (company_at companies company) company (λ c. Ok c))

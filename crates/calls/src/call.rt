@@ -1,17 +1,9 @@
 // The calls of a book as plain numbers. A call refuses what is beyond its limits, so that any numbers may be handed in.
 use crate::enrolling::Enrolment;
 use company::figures::TermsFigures;
+use orders::order::Order;
 use tables::service::Service;
 use tariff::supply::Change;
-
-/// What an order says.
-#[derive(Clone, Copy, Debug, PartialEq, Eq)]
-pub struct Order {
-    /// The number of the book that drew it.
-    pub book: u64,
-    pub company: u64,
-    pub instalment: u8,
-}
 
 #[derive(Clone, Copy, Debug, PartialEq, Eq)]
 pub enum Call {

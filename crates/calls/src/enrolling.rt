@@ -2,10 +2,11 @@
 ghost use Rattle.std.specs.Prelude.{◌≡◌, ◌<◌, length, OnOk};
 ghost use Rattle.calls.specs.Decisions.{enrolled_within, enrolling};
 
-use crate::places::{after_event, company_at};
 use crate::records::Records;
 use company::record::Event;
 use limits::among;
+use orders::register::after_event;
+use tables::lengths::tables_fit;
 use tables::lookup::record_at;
 use tables::rows::PointRow;
 use units::refusal::{Reason, Refusal};
@@ -22,9 +23,9 @@ impl<'a> Records<'a> {
     /// The row of a point that is enrolled in a locality, or the first refusal.
     pub fn enrolling(self, point: u64, enrolment: Enrolment) -> Result<PointRow, Refusal>
         ensures within { OnOk result (point < length self.entry.points.now) }
-        ensures answer { result ≡ enrolling self.entry.companies.now self.entry.localities.now self.entry.points.now point enrolment.locality enrolment.class enrolment.domestic }
+        ensures answer { result ≡ enrolling self.entry.register.now.companies self.entry.localities.now self.entry.points.now point enrolment.locality enrolment.class enrolment.domestic }
     {
-        if !self.fits() {
+        if !tables_fit(self.localities, self.points) {
             return Err(Reason::PastTable.at(0));
         }
         if point >= self.points.len() as u64 {
@@ -36,7 +37,10 @@ impl<'a> Records<'a> {
         }
         let locality = record_at(self.localities, seat).ok_or(Reason::NothingThere.at(seat))?;
         let owner = locality.row().company;
-        let company = company_at(self.companies, owner).ok_or(Reason::NothingThere.at(owner))?;
+        let company = self
+            .register
+            .company(owner)
+            .ok_or(Reason::NothingThere.at(owner))?;
         if record_at(self.points, point).is_some() {
             return Err(Reason::PlaceTaken.at(point));
         }

@@ -4,9 +4,6 @@
 pub mod asking;
 pub mod billing;
 pub mod call;
-pub mod deciding;
 pub mod enrolling;
 pub mod filing;
-mod places;
 pub mod records;
-pub mod registering;

@@ -3,7 +3,8 @@ ghost use Rattle.calls.specs.declared.call.Call.TheVariants.{Ask};
 ghost use Rattle.report.specs.Makers.{OnlyMaker};
 
 use bookfile::statement::Statement;
-use calls::call::{Call, Order, Question};
+use calls::call::{Call, Question};
+use orders::order::Order;
 use std::fmt;
 use tables::service::Service;
 

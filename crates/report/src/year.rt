@@ -7,8 +7,12 @@ ghost use Rattle.report.specs.Listed.{parts_listed};
 use crate::answer::state_words;
 use book::book::Book;
 use company::record::{Company, Phase};
+use costs::capital::{capital_cost, unit_component};
+use costs::figure::locality_figure;
+use costs::regime::additions;
 use journal::kept::Journal;
 use management::rule::Management;
+use orders::register::MOST_COMPANIES;
 use revenue::parts::Revenue;
 use revenue::served::Served;
 use std::fmt;
@@ -38,14 +42,17 @@ pub fn write_locality<W: fmt::Write>(
     for (name, cents) in [
         (
             "capital cost of distribution",
-            locality.capital_cost(tariff, Service::Distribution),
+            capital_cost(locality, tariff, Service::Distribution),
         ),
         (
             "capital cost of metering",
-            locality.capital_cost(tariff, Service::Metering),
+            capital_cost(locality, tariff, Service::Metering),
         ),
-        ("fees and remote reading", locality.additions(tariff)),
-        ("adds to recognised revenue", locality.figure(tariff)),
+        ("fees and remote reading", additions(locality, tariff)),
+        (
+            "adds to recognised revenue",
+            locality_figure(locality, tariff),
+        ),
     ] {
         write_cents(out, name, cents)?;
     }
@@ -53,7 +60,7 @@ pub fn write_locality<W: fmt::Write>(
         ("unit component of distribution", Service::Distribution),
         ("unit component of metering", Service::Metering),
     ] {
-        match locality.unit_component(tariff, service, place) {
+        match unit_component(locality, tariff, service, place) {
             Ok(component) => writeln!(out, "  {name:<31}{component:>20} millionths of a euro")?,
             Err(refusal) => writeln!(out, "  {name}: {refusal}")?,
         }
@@ -140,7 +147,7 @@ pub fn write_closed<W: fmt::Write, J: Journal, M: Management>(
     out: &mut W,
     book: &Book<J, M>,
 ) -> fmt::Result {
-    let mut list = [0; 16];
+    let mut list = [0; MOST_COMPANIES];
     let count = book.closed_companies(&mut list).unwrap_or(0);
     write!(out, "\nclosed companies:")?;
     if count == 0 {

@@ -8,7 +8,7 @@ use Rattle.tables.specs.declared.rows.LocalityRow.{LocalityRow}
 use Rattle.tables.specs.declared.rows.PointRow.{PointRow}
 use Rattle.tables.specs.declared.state.State.{State}
 use Rattle.tables.specs.Blank.{past_table}
-use Rattle.tables.specs.Costs.{locality_figure}
+use Rattle.costs.specs.Costs.{locality_figure}
 use Rattle.tables.specs.PointRows.{point_stands}
 use Rattle.tables.specs.States.{state_number}
 use Rattle.revenue.specs.Owners.{owns, seat, serves, serves_in}

@@ -7,7 +7,7 @@ use Rattle.tariff.specs.declared.figures.TariffFigures.{TariffFigures}
 use Rattle.tables.specs.declared.rows.LocalityRow.{LocalityRow}
 use Rattle.tables.specs.declared.rows.PointRow.{PointRow}
 use Rattle.tables.specs.declared.state.State.TheVariants.{Regime, StartUp}
-use Rattle.tables.specs.Costs.{locality_figure, exact_locality_figure}
+use Rattle.costs.specs.Costs.{locality_figure, exact_locality_figure}
 use Rattle.revenue.specs.declared.parts.Revenue.{Revenue}
 use Rattle.revenue.specs.Owners.{owns}
 use Rattle.revenue.specs.Served.{served}

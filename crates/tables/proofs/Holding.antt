@@ -1,14 +1,10 @@
 -- A row that stands keeps every limit.
-use Rattle.std.proofs.Common.{◌≡◌, ℕ, zero, suc, ◌+◌, true, false, List, [], ◌∷◌, get_or, take, drop, is_some, refl, arith}
-use Rattle.std.proofs.lemmas.List.{get_or-drop}
+use Rattle.std.proofs.Common.{◌≡◌, ℕ, zero, suc, ◌+◌, true, false, List, [], ◌∷◌, get_or, is_some, refl, arith}
 use Rattle.tables.specs.declared.rows.AssetRow.{AssetRow}
 use Rattle.tables.specs.declared.rows.LocalityRow.{LocalityRow}
 use Rattle.tables.specs.declared.rows.PointRow.{PointRow}
-use Rattle.tables.specs.declared.service.Service.{Service}
-use Rattle.tables.specs.declared.service.Service.TheVariants.{Distribution, Metering}
-use Rattle.tables.specs.Costs.{of_service}
 use Rattle.tables.specs.PointRows.{point_stands, PointHeld}
-use Rattle.tables.specs.Filings.{Test, Limits, Odds, row_fault, rows_fault, limit_fault, odds_fault, locality_stands, no_asset, AssetHeld, AllHeld, Held}
+use Rattle.tables.specs.Filings.{Test, Limits, Odds, row_fault, rows_fault, limit_fault, odds_fault, locality_stands, no_asset, AssetHeld, Held}
 
 -- no fault in the rows, so none in any of them, whatever numbers its figures have
 row_good : (test : Test) → ((m : ℕ) → is_some (row_fault test m no_asset) ≡ false) → (n : ℕ) (rows : List AssetRow) → is_some (rows_fault test n rows) ≡ false → (i : ℕ) → (m : ℕ) × (is_some (row_fault test m (get_or rows i no_asset)) ≡ false)
@@ -42,20 +38,3 @@ held l h =
 pub point_held : (p : PointRow) → point_stands p ≡ true → PointHeld p
 unfolding point_stands
 point_held p h = record { locality = grind arith; class = (grind arith, grind arith); domestic = grind arith; volume = grind arith; days = grind arith }
-
--- ---- A part of rows that are held
-no_asset_held : AssetHeld no_asset
-no_asset_held = record { gross = omega arith; works = omega arith; net = omega arith; contributions = omega arith; remaining = (omega arith, omega arith) }
-
-held_front : (n : ℕ) (rows : List AssetRow) → AllHeld rows → AllHeld (take n rows)
-held_front zero rows h i = no_asset_held
-held_front (suc n) [] h i = no_asset_held
-held_front (suc n) (a ∷ rows) h zero = h 0
-held_front (suc n) (a ∷ rows) h (suc i) = held_front n rows (λ j. h (suc j)) i
-
-held_back : (n : ℕ) (rows : List AssetRow) → AllHeld rows → AllHeld (drop n rows)
-held_back n rows h i = rw (get_or-drop n rows i no_asset) (h (n + i))
-
-pub held_of_service : (service : Service) (rows : List AssetRow) → AllHeld rows → AllHeld (of_service service rows)
-held_of_service Distribution rows h = held_front 5 rows h
-held_of_service Metering rows h = held_front 3 (drop 5 rows) (held_back 5 rows h)

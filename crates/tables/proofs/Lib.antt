@@ -1,4 +1,3 @@
 pub mod Holding
 pub mod Reading
-pub mod Nearing
 pub mod Faultless

@@ -3,6 +3,7 @@ pub mod Filings
 pub mod Standing
 pub mod PointRows
 pub mod Records
-pub mod Costs
+pub mod Services
 pub mod Blank
 pub mod Lookups
+pub mod Lengths

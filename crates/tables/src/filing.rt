@@ -3,7 +3,7 @@ ghost use Rattle.std.specs.Prelude.{◌≡◌, ℕ, ◌*◌, ◌<◌, ◌&&◌, 
 ghost use Rattle.limits.specs.Checked.{faultless};
 ghost use Rattle.tables.specs.Filings.{Test, Limits, Odds, row_fault, rows_fault, limit_fault, change_fault, odds_fault, filing_fault};
 
-use crate::rows::{AssetRow, LocalityRow};
+use crate::rows::{AssetRow, LocalityRow, MOST_ASSET_CENTS, MOST_COUNT};
 use limits::{among, first_of, unless, unless_bad};
 use units::refusal::{Reason, Refusal};
 
@@ -12,11 +12,11 @@ fn limit_of_row(row: u8, a: &AssetRow) -> Option<u64>
     ensures { result ≡ row_fault Limits (5 * row) a.now }
 {
     let n = 5 * row as u64;
-    unless(a.gross <= 10_000_000_000, n)
-        .or_else(|| unless(a.net <= 10_000_000_000, n + 1))
-        .or_else(|| unless(a.works <= 10_000_000_000, n + 2))
-        .or_else(|| unless(a.contributions <= 10_000_000_000, n + 3))
-        .or_else(|| unless(a.remaining <= 10_000_000_000, n + 4))
+    unless(a.gross <= MOST_ASSET_CENTS, n)
+        .or_else(|| unless(a.net <= MOST_ASSET_CENTS, n + 1))
+        .or_else(|| unless(a.works <= MOST_ASSET_CENTS, n + 2))
+        .or_else(|| unless(a.contributions <= MOST_ASSET_CENTS, n + 3))
+        .or_else(|| unless(a.remaining <= MOST_ASSET_CENTS, n + 4))
 }
 
 fn remaining_fits(a: &AssetRow) -> bool
@@ -60,8 +60,8 @@ fn limit_fault(l: &LocalityRow) -> Option<u64>
     first_of(&[
         unless(among(2, l.state), 1),
         unless(among(8, l.area), 2),
-        unless(l.expected <= 10_000_000, 3),
-        unless(l.smart <= 10_000_000, 4),
+        unless(l.expected <= MOST_COUNT, 3),
+        unless(l.smart <= MOST_COUNT, 4),
         fault_of_rows(&l.rows, limit_of_row),
     ])
 }

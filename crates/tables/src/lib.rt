@@ -1,9 +1,9 @@
-// The tables that are lent to the book: their rows, the records that rows make, and the costs of a locality.
+// The tables that are lent to the book: their rows, and the records that rows make. No price of a tariff is known here.
 #![tactic(auto)]
 
-mod assets;
 pub mod blank;
 pub mod filing;
+pub mod lengths;
 pub mod locality;
 pub mod lookup;
 pub mod point;

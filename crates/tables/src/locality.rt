@@ -6,8 +6,6 @@ use crate::rows::{LocalityRow, Row};
 use crate::standing::locality_stands;
 use crate::state::State;
 
-pub mod costs;
-
 #[derive(Clone, Copy, Debug, PartialEq, Eq)]
 pub struct Locality {
     pub(crate) row: LocalityRow,
@@ -61,6 +59,14 @@ impl Locality {
         ensures held { Held result }
     {
         self.row
+    }
+
+    /// The row lent, for callers that read some of its figures: a copy of it is 368 bytes.
+    pub fn as_row(&self) -> &LocalityRow
+        ensures value { result.now ≡ self.now.row }
+        ensures held { Held result.now }
+    {
+        &self.row
     }
 
     pub fn state(&self) -> State

@@ -1,11 +1,11 @@
 // The plain rows of the two tables that are lent to the book.
 ghost use Rattle.std.specs.Prelude.{◌≡◌, Bool, true, false, Option, MatchOption};
 
-/// The most localities that a book has.
-pub const MOST_LOCALITIES: usize = 256;
+/// The most cents of a figure of an asset row.
+pub const MOST_ASSET_CENTS: u64 = 10_000_000_000;
 
-/// The most points that a book has.
-pub const MOST_POINTS: usize = 65_536;
+/// The most expected points of a locality, and its most smart points.
+pub const MOST_COUNT: u64 = 10_000_000;
 
 /// A row of a lent table. It stands if it keeps its limits; any other row counts as blank.
 pub trait Row: Copy {

@@ -8,10 +8,10 @@ pub enum Service {
 }
 
 impl Service {
-    ghost use Rattle.tables.specs.Costs.{of_service, row_count};
+    ghost use Rattle.tables.specs.Services.{of_service, row_count};
 
     /// What belongs to the service of things by asset row: the first five are those of distribution.
-    pub(crate) fn part<T>(self, by_row: &[T; 8]) -> &[T]
+    pub fn part<T>(self, by_row: &[T; 8]) -> &[T]
         ensures value { result.now ≡ of_service self by_row.now }
         ensures len { length result.now ≡ row_count self }
     {

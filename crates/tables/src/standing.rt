@@ -3,15 +3,15 @@ ghost use Rattle.std.specs.Prelude.{◌≡◌};
 ghost use Rattle.tables.specs.Standing.{row_stands, rows_stand};
 ghost use Rattle.tables.specs.Filings.{locality_stands};
 
-use crate::rows::{AssetRow, LocalityRow};
+use crate::rows::{AssetRow, LocalityRow, MOST_ASSET_CENTS, MOST_COUNT};
 use limits::among;
 
 // Whether an asset row has no fault.
 fn row_stands(a: &AssetRow) -> bool
     ensures { result ≡ row_stands a.now }
 {
-    a.gross <= 10_000_000_000
-        && a.works <= 10_000_000_000
+    a.gross <= MOST_ASSET_CENTS
+        && a.works <= MOST_ASSET_CENTS
         && a.remaining <= a.net
         && a.net <= a.gross
         && a.remaining <= a.contributions
@@ -37,7 +37,7 @@ pub fn locality_stands(l: &LocalityRow) -> bool
     l.company <= 15
         && among(2, l.state)
         && among(8, l.area)
-        && l.expected <= 10_000_000
-        && l.smart <= 10_000_000
+        && l.expected <= MOST_COUNT
+        && l.smart <= MOST_COUNT
         && rows_stand(&l.rows)
 }

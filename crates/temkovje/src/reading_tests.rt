@@ -1,6 +1,7 @@
 // What the reader says of example files.
 use bookfile::file::{BookFile, NumberedCall, read};
-use calls::call::{Call, Order};
+use calls::call::Call;
+use orders::order::Order;
 use std::alloc::Global;
 use std::test::Fail;
 

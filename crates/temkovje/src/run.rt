@@ -8,12 +8,14 @@ use journal::lent::LentJournal;
 use management::area_wide::AreaWide;
 use management::municipal::Municipal;
 use management::rule::Management;
+use orders::register::MOST_COMPANIES;
 use report::answer::write_answer;
 use report::year::{write_account, write_closed, write_company, write_locality};
 use std::alloc::Global;
 use std::fmt;
+use tables::lengths::{MOST_LOCALITIES, MOST_POINTS};
 use tables::lookup::record_at;
-use tables::rows::{LocalityRow, MOST_LOCALITIES, MOST_POINTS, PointRow, Row};
+use tables::rows::{LocalityRow, PointRow, Row};
 use tariff::table::Tariff;
 use units::amounts::PointPrice;
 use units::refusal::{Reason, Refusal};
@@ -98,7 +100,7 @@ fn write_year<W: fmt::Write, J: Journal, M: Management>(
             write_locality(out, tariff, place, &locality)?;
         }
     }
-    for company in 0..16 {
+    for company in 0..MOST_COMPANIES as u64 {
         write_company(out, book, localities, points, company)?;
     }
     write_closed(out, book)?;

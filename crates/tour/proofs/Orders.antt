@@ -5,16 +5,21 @@ use Rattle.std.proofs.lemmas.List.{get_or-set_same}
 use Rattle.units.specs.declared.amounts.Cents.{Cents}
 use Rattle.units.specs.declared.refusal.Refusal.{Refusal}
 use Rattle.company.specs.declared.record.Company.{Company}
-use Rattle.book.specs.declared.order.DrawnOrder.{DrawnOrder}
-use Rattle.book.specs.declared.order.SentOrder.{SentOrder}
-use Rattle.book.specs.declared.order.Returned.{Returned}
+use Rattle.orders.specs.declared.order.DrawnOrder.{DrawnOrder}
+use Rattle.orders.specs.declared.order.SentOrder.{SentOrder}
+use Rattle.orders.specs.declared.order.Returned.{Returned}
 use Rattle.book.specs.States.{BookState}
-use Rattle.book.specs.Companies.{sending, bouncing, moved, spends}
+use Rattle.orders.specs.Orders.{order_drawn, spends}
+use Rattle.book.specs.Companies.{number_of, drawing, cancelling, sending, bouncing, moved}
 use Rattle.book.specs.Closings.{balance_of, closed_by}
-use Rattle.book.proofs.Granted.{within}
+use Rattle.units.proofs.Granted.{within}
 
 replaced : {A : Type 0} (xs : List (Option A)) (place : ℕ) (a b : A) → get_or xs place None ≡ Some a → get_or (set xs place (Some b)) place None ≡ Some b
 replaced xs place a b there = get_or-set_same xs place (Some b) None (within xs place a there)
+
+-- a drawn order can be cancelled
+pub drawn_cancels : (b after : BookState) (company : ℕ) (drawn : DrawnOrder) → Ok drawn ≡ order_drawn (number_of b.opened) company (drawing b company) → after ≡ moved b company (drawing b company) → IsOk (cancelling after drawn.order)
+drawn_cancels b after company drawn answer moves = grind (arith, common_steps, replaced)
 
 -- a sent order can bounce
 pub sent_bounces : (b after : BookState) (drawn : DrawnOrder) (sent : SentOrder) → Ok sent ≡ spends drawn (λ d. record { order = drawn.order }) (sending b drawn.order) → after ≡ moved b drawn.order.company (sending b drawn.order) → IsOk (bouncing after sent.order)

@@ -4,7 +4,7 @@ use Rattle.journal.specs.declared.own.OwnJournal.{OwnJournal}
 use Rattle.journal.specs.contracts.own.OwnJournalJournal.TheImpl.{ghosts as own_journal}
 use Rattle.management.specs.declared.municipal.Municipal.{Municipal}
 use Rattle.management.specs.contracts.municipal.MunicipalManagement.TheImpl.{ghosts as municipal}
-use Rattle.calls.specs.declared.call.Order.{Order}
+use Rattle.orders.specs.declared.order.Order.{Order}
 use Rattle.book.specs.declared.book.Book.{Book}
 use Rattle.book.specs.States.{BookState, state}
 use Rattle.book.specs.Companies.{cancelling, bouncing}

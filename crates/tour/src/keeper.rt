@@ -1,6 +1,6 @@
 // A bookkeeper: a book, and the tables that are lent to its calls. Each call is told by a line.
 mod closings;
-mod orders;
+mod instalments;
 mod questions;
 mod rows;
 mod spending;

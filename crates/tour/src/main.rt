@@ -9,7 +9,8 @@ mod recording;
 use crate::keeper::Keeper;
 use lines::Lines;
 use management::municipal::Municipal;
-use tables::rows::{MOST_POINTS, PointRow};
+use tables::lengths::MOST_POINTS;
+use tables::rows::PointRow;
 use units::amounts::PointPrice;
 
 fn run(rt: &HostRuntime) -> anyhow::Result<()> {

@@ -12,7 +12,7 @@ use Rattle.tables.specs.Blank.{no_locality, no_point}
 use Rattle.management.specs.Rules.{municipal_price}
 use Rattle.calls.specs.declared.call.Call.{Call}
 use Rattle.calls.specs.declared.call.Call.TheVariants.{Register, File, Enrol, Bill as BillCall, Draw, Send, Confirm, Close, Reopen}
-use Rattle.calls.specs.declared.call.Order.{Order}
+use Rattle.orders.specs.declared.order.Order.{Order}
 use Rattle.book.specs.declared.answer.Granted.{Granted}
 use Rattle.book.specs.Calls.{State, answer_to, after_call}
 use Rattle.book.specs.Openings.{opening, opened_by, blanked}

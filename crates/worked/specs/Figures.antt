@@ -5,7 +5,7 @@ use Rattle.units.specs.Refusals.{refusal}
 use Rattle.tariff.specs.Limits.{first_bad_figure}
 use Rattle.tariff.specs.Bills.{amounts_of}
 use Rattle.tables.specs.Filings.{locality_stands}
-use Rattle.tables.specs.Costs.{capital_cost, locality_figure}
+use Rattle.costs.specs.Costs.{capital_cost, locality_figure}
 use Rattle.tables.specs.declared.service.Service.TheVariants.{Distribution, Metering}
 use Rattle.tables.specs.declared.state.State.TheVariants.{Regime}
 use Rattle.revenue.specs.Served.{served}

@@ -3,6 +3,8 @@ use crate::compare::Tally;
 use crate::numbers::Numbers;
 use crate::tariffs::compare_by_tariff;
 use anyhow::Context;
+use costs::capital::{capital_cost, unit_component};
+use costs::figure::locality_figure;
 use std::array;
 use tables::locality::Locality;
 use tables::rows::{AssetRow, LocalityRow, Row};
@@ -33,7 +35,7 @@ fn locality(numbers: &mut Numbers<'_>) -> anyhow::Result<Locality> {
 
 // The unit component; where it is refused, the number of the refusal, as the table has it.
 fn component(locality: &Locality, table: &Tariff, service: Service) -> u64 {
-    match locality.unit_component(table, service, 0) {
+    match unit_component(locality, table, service, 0) {
         Ok(component) => component,
         Err(refusal) => u64::from(refusal.number()),
     }
@@ -48,11 +50,11 @@ fn compare_line(
     for (what, found) in [
         (
             "distribution cost",
-            locality.capital_cost(table, Service::Distribution),
+            capital_cost(&locality, table, Service::Distribution),
         ),
         (
             "metering cost",
-            locality.capital_cost(table, Service::Metering),
+            capital_cost(&locality, table, Service::Metering),
         ),
         (
             "distribution component",
@@ -62,7 +64,7 @@ fn compare_line(
             "metering component",
             component(&locality, table, Service::Metering),
         ),
-        ("locality", locality.figure(table)),
+        ("locality", locality_figure(&locality, table)),
     ] {
         tally.compare(what, found, numbers.take()?)?;
     }

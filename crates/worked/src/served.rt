@@ -3,7 +3,7 @@ use crate::compare::Tally;
 use crate::numbers::Numbers;
 use crate::tariffs::compare_by_tariff;
 use anyhow::Context;
-use revenue::costs::Costs;
+use revenue::company_costs::Costs;
 use revenue::served::Served;
 use tariff::table::Tariff;
 use units::amounts::PointPrice;

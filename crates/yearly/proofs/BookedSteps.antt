@@ -28,23 +28,26 @@ use Rattle.company.specs.declared.terms.Terms.{Terms}
 use Rattle.calls.specs.declared.billing.Charged.{Charged}
 use Rattle.calls.specs.declared.call.Call.{Call}
 use Rattle.calls.specs.declared.call.Call.TheVariants as call
-use Rattle.calls.specs.declared.call.Order.{Order}
+use Rattle.orders.specs.declared.order.Order.{Order}
 use Rattle.calls.specs.declared.enrolling.Enrolment.{Enrolment}
-use Rattle.calls.specs.Decisions.{tables_fit, deciding, billing as billing_in}
+use Rattle.orders.specs.Registers.{deciding}
+use Rattle.tables.specs.Lengths.{tables_fit}
+use Rattle.calls.specs.Decisions.{billing as billing_in}
 use Rattle.book.specs.declared.answer.Granted.{Granted}
 use Rattle.book.specs.declared.answer.Granted.TheVariants as granted
 use Rattle.book.specs.States.{BookState}
 use Rattle.book.specs.Tables.{written, billed_row}
-use Rattle.book.specs.Companies.{registered, registered_by, decided, confirming, confirmed_by, amount_paid, advance_entry, moved, drawing, cancelling, sending, bouncing}
+use Rattle.orders.specs.Payments.{amount_paid, advance_entry}
+use Rattle.book.specs.Companies.{registered, registered_by, decided, confirming, confirmed_by, moved, drawing, cancelling, sending, bouncing}
 use Rattle.book.specs.Closings.{closing, balance_of, closed_by, balance_entry, reopening}
 use Rattle.book.specs.Rows.{filing, enrolling, billing, bill_of, billed_by, bill_entry}
 use Rattle.book.specs.Calls.{State, grants, filed_row, drawn_answer, answer_to, after_call}
 use Rattle.book.specs.JournalSums.{is_bill, charge_to, charged_to}
-use Rattle.book.proofs.Granted.{when_granted, next_granted, both_granted}
+use Rattle.units.proofs.Granted.{when_granted, next_granted, both_granted}
 use Rattle.book.proofs.Events.{event_granted}
 use Rattle.book.proofs.Bills.{GrantedBill, bill_granted}
 use Rattle.book.proofs.BillLaw.{still_stands, year_days}
-use Rattle.book.proofs.OrderLaws.{order_laws}
+use Rattle.orders.proofs.OrderLaws.{order_laws}
 use Rattle.yearly.specs.Histories.{Told, History, or_else, terms_of, filing_of, enrolment_of}
 use Rattle.yearly.specs.Entries.{locality_in, seat_in, company_of, entry_told, payment_told, bill_told}
 use Rattle.yearly.proofs.Stories.{Held}

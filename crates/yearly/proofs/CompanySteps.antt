@@ -14,15 +14,17 @@ use Rattle.company.specs.Terms.{first_bad_term}
 use Rattle.company.specs.Made.{terms_if, terms_of as terms_made}
 use Rattle.company.proofs.Instalments.{none_paid}
 use Rattle.calls.specs.declared.call.Call.TheVariants.{Register, Draw, Cancel, Send, Bounce, Reopen}
-use Rattle.calls.specs.declared.call.Order.{Order}
-use Rattle.calls.specs.Decisions.{company_at}
+use Rattle.orders.specs.declared.order.Order.{Order}
+use Rattle.orders.specs.Registers.{company_at}
 use Rattle.book.specs.declared.answer.Granted.TheVariants as granted
 use Rattle.book.specs.States.{BookState, with_company}
 use Rattle.book.specs.Companies.{registered, registered_by, decided, moved}
 use Rattle.book.specs.Calls.{State, grants, drawn_answer}
 use Rattle.book.specs.Questions.{paid_out}
-use Rattle.book.proofs.Granted.{when_granted, same, within}
-use Rattle.book.proofs.Events.{GrantedEvent, event_granted}
+use Rattle.units.proofs.Granted.{when_granted, same, within}
+use Rattle.orders.proofs.Events.{GrantedEvent}
+use Rattle.book.specs.Laws.{company_in}
+use Rattle.book.proofs.Events.{event_granted}
 use Rattle.book.proofs.QuietLaws.{none_there}
 use Rattle.yearly.specs.Histories.{Told, History, terms_of, filing_of, enrolment_of, or_else, latest, is_true, closes, drawn, taken_back}
 use Rattle.yearly.proofs.Stories.{Story, HeldBy, registered_held, draw_held, cancel_held, send_held, bounce_held, reopen_held}
@@ -44,7 +46,7 @@ module _ (y : Fixed) (h : History) (m : Moving) (T : Tied y h m) where
   with_book b = record { book = b; localities = m.localities; points = m.points }
 
   -- an event that pays nothing, and leaves the company open
-  event_step : (x : Told) (place : ℕ) (e : Event) (d : Company × ℕ) (g : GrantedEvent book.opened place e d) (F : Bool → ℕ → Story) → ((i : ℕ) → story (x ∷ h) m.entries i ≡ F (eqb place i) i) → ((i : ℕ) → F false i ≡ story h m.entries i) → (HeldBy g.c (story h m.entries place) → HeldBy (company_moved g.c e (Ok d.1)) (F true place)) → ((company_moved g.c e (Ok d.1)).phase ≡ Closed → ⊥) → paid_out (Some (company_moved g.c e (Ok d.1))) ≡ paid_out (Some g.c) → ((i : ℕ) → filing_of y.filings (x ∷ h) i ≡ filing_of y.filings h i) → ((i : ℕ) → enrolment_of (x ∷ h) i ≡ enrolment_of h i) → Stands y (x ∷ h) (with_book (with_company book place d.0))
+  event_step : (x : Told) (place : ℕ) (e : Event) (d : Company × ℕ) (g : GrantedEvent (company_in book.opened place) e d) (F : Bool → ℕ → Story) → ((i : ℕ) → story (x ∷ h) m.entries i ≡ F (eqb place i) i) → ((i : ℕ) → F false i ≡ story h m.entries i) → (HeldBy g.c (story h m.entries place) → HeldBy (company_moved g.c e (Ok d.1)) (F true place)) → ((company_moved g.c e (Ok d.1)).phase ≡ Closed → ⊥) → paid_out (Some (company_moved g.c e (Ok d.1))) ≡ paid_out (Some g.c) → ((i : ℕ) → filing_of y.filings (x ∷ h) i ≡ filing_of y.filings h i) → ((i : ℕ) → enrolment_of (x ∷ h) i ≡ enrolment_of h i) → Stands y (x ∷ h) (with_book (with_company book place d.0))
   event_step x place e d g F after others moves open_after pays filed enrolled =
       subst (λ (c : Company). Stands y (x ∷ h) (with_book (with_company book place c))) (sym g.after)
       (record {

@@ -17,10 +17,10 @@ use Rattle.company.specs.declared.record.Event.{Event}
 use Rattle.company.specs.declared.record.Phase.{Phase}
 use Rattle.company.specs.declared.record.Phase.TheVariants.{Free, Drawn, Sent, Closed}
 use Rattle.company.specs.Events.{while_open, act_answer, advances}
-use Rattle.calls.specs.Decisions.{Companies, after_event}
+use Rattle.orders.specs.Registers.{Companies, after_event}
 use Rattle.units.specs.Refusals.{refused_at}
 use Rattle.book.specs.Questions.{settlement, price_for}
-use Rattle.book.proofs.Granted.{next_granted, at_granted}
+use Rattle.units.proofs.Granted.{next_granted, at_granted}
 use Rattle.yearly.proofs.Ties.{Fixed, Settled}
 
 -- ---- A company that is open

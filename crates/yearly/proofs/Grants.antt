@@ -15,8 +15,10 @@ use Rattle.revenue.specs.Owners.{seat}
 use Rattle.company.specs.declared.record.Event.TheVariants.{File, Enrol, Bill as BillEvent}
 use Rattle.calls.specs.declared.billing.Charged.{Charged}
 use Rattle.calls.specs.declared.enrolling.Enrolment.{Enrolment}
-use Rattle.calls.specs.Decisions.{Companies, company_at, tables_fit, after_event, enrolled_within, filing, enrolling, seated, billing}
-use Rattle.book.proofs.Granted.{when_granted, found_granted, next_granted, same}
+use Rattle.orders.specs.Registers.{Companies, company_at, after_event}
+use Rattle.tables.specs.Lengths.{tables_fit}
+use Rattle.calls.specs.Decisions.{enrolled_within, filing, enrolling, seated, billing}
+use Rattle.units.proofs.Granted.{when_granted, found_granted, next_granted, same}
 use Rattle.book.proofs.QuietLaws.{not_standing}
 use Rattle.yearly.proofs.Foreign.{Active, active_at}
 

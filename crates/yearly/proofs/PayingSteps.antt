@@ -12,16 +12,19 @@ use Rattle.company.specs.declared.record.Company.{Company}
 use Rattle.company.specs.declared.record.Event.TheVariants as event
 use Rattle.company.specs.Events.{act_answer, moved as company_moved}
 use Rattle.calls.specs.declared.call.Call.TheVariants.{Confirm, Close}
-use Rattle.calls.specs.declared.call.Order.{Order}
-use Rattle.calls.specs.Decisions.{tables_fit, deciding}
+use Rattle.orders.specs.declared.order.Order.{Order}
+use Rattle.orders.specs.Registers.{deciding}
+use Rattle.tables.specs.Lengths.{tables_fit}
 use Rattle.book.specs.declared.answer.Granted.TheVariants as granted
 use Rattle.book.specs.States.{BookState}
-use Rattle.book.specs.Companies.{decided, confirming, confirmed_by, amount_paid, advance_entry}
-use Rattle.book.specs.Closings.{settled, settling, closing, balance_of, closed_by, balance_entry}
+use Rattle.orders.specs.Payments.{amount_paid, advance_entry}
+use Rattle.book.specs.Companies.{decided, confirming, confirmed_by}
+use Rattle.orders.specs.Orders.{settled}
+use Rattle.book.specs.Closings.{settling, closing, balance_of, closed_by, balance_entry}
 use Rattle.book.specs.Calls.{State, grants}
 use Rattle.book.specs.JournalSums.{Advanced, change_at, advance_in, advances_of, payment_in, payment_to, paid_to}
 use Rattle.book.specs.Questions.{settlement, price_for}
-use Rattle.book.proofs.Granted.{when_granted, next_granted, both_granted, same, within}
+use Rattle.units.proofs.Granted.{when_granted, next_granted, both_granted, same, within}
 use Rattle.book.proofs.Events.{event_granted}
 use Rattle.book.proofs.Noting.{advances_push, no_change}
 use Rattle.yearly.specs.Histories.{Told, History, or_else, latest, is_true, closes, confirmed, taken_back}

@@ -11,7 +11,7 @@ use Rattle.tables.specs.Blank.{no_locality, no_point}
 use Rattle.company.specs.declared.record.Company.{Company}
 use Rattle.calls.specs.declared.call.Call.{Call}
 use Rattle.calls.specs.declared.call.Call.TheVariants.{Register, File, Enrol, Bill, Draw, Cancel, Send, Confirm, Bounce, Close, Reopen, Ask}
-use Rattle.calls.specs.Decisions.{tables_fit}
+use Rattle.tables.specs.Lengths.{tables_fit}
 use Rattle.book.specs.declared.answer.Granted.{Granted}
 use Rattle.book.specs.States.{BookState}
 use Rattle.book.specs.Companies.{registered, drawing, cancelling, sending, confirming, bouncing}
@@ -19,7 +19,7 @@ use Rattle.book.specs.Rows.{filing, enrolling, billing}
 use Rattle.book.specs.Closings.{closing, reopening}
 use Rattle.book.specs.Openings.{unused, opening, opened_by, blanked}
 use Rattle.book.specs.Calls.{State, filed_row, answer_to, after_call}
-use Rattle.book.proofs.Granted.{when_granted, next_granted}
+use Rattle.units.proofs.Granted.{when_granted, next_granted}
 use Rattle.yearly.specs.Histories.{History}
 use Rattle.yearly.specs.Runs.{standing, begun, run_answers, run_after, history_after, AlwaysInOrder}
 use Rattle.yearly.proofs.Writing.{blank_at}

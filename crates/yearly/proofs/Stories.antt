@@ -15,11 +15,11 @@ use Rattle.company.specs.declared.terms.Terms.{Terms}
 use Rattle.company.specs.Events.{act_answer, moved, draw_answer, close_answer, reopen_answer, new_company}
 use Rattle.company.specs.Instalments.{paid_up_to, instalment}
 use Rattle.company.proofs.Instalments.{none_paid}
-use Rattle.book.specs.Closings.{settled}
+use Rattle.orders.specs.Orders.{settled}
 use Rattle.book.specs.JournalSums.{Advanced}
-use Rattle.book.specs.Laws.{outs}
+use Rattle.orders.specs.Laws.{outs}
 use Rattle.book.specs.Questions.{paid_out}
-use Rattle.book.proofs.OrderLaws.{order_laws}
+use Rattle.orders.proofs.OrderLaws.{order_laws}
 use Rattle.yearly.specs.YearRules.{instalments}
 
 pub record Story : Type 0 where

@@ -23,7 +23,7 @@ use Rattle.book.specs.Tables.{written, billed_row}
 use Rattle.book.specs.Rows.{filing, enrolling, billing, bill_of, billed_by, bill_entry}
 use Rattle.book.specs.Calls.{grants, filed_row}
 use Rattle.book.specs.JournalSums.{Advanced, payment_to, journal_volume, journal_days, paid_to}
-use Rattle.book.proofs.Granted.{both_granted}
+use Rattle.units.proofs.Granted.{both_granted}
 use Rattle.book.proofs.Bills.{GrantedBill, bill_granted}
 use Rattle.book.proofs.BillLaw.{still_stands, year_days}
 use Rattle.book.proofs.Noting.{its_change, others_change, no_advances, no_payment}

@@ -17,7 +17,7 @@ use Rattle.calls.specs.declared.call.Call.{Call}
 use Rattle.calls.specs.declared.call.Call.TheVariants.{Ask}
 use Rattle.calls.specs.declared.call.Question.{Question}
 use Rattle.calls.specs.declared.enrolling.Enrolment.{Enrolment}
-use Rattle.calls.specs.Decisions.{Companies}
+use Rattle.orders.specs.Registers.{Companies}
 use Rattle.book.specs.declared.answer.Granted.{Granted}
 use Rattle.book.specs.States.{BookState}
 use Rattle.book.specs.Calls.{State}
@@ -49,7 +49,7 @@ pub record Moving : Type 0 where
 
 abbrev pub book_at : Fixed → Companies → List Entry → BookState
 book_at y companies entries =
-    record { opened = Some (record { tariff = y.tariff; number = y.number; sum = y.sum; companies = companies }); entries = entries; room = y.room; price = y.price }
+    record { opened = Some (record { tariff = y.tariff; sum = y.sum; register = record { number = y.number; companies = companies } }); entries = entries; room = y.room; price = y.price }
 
 abbrev pub state_at : Fixed → Moving → State
 state_at y m = record { book = book_at y m.companies m.entries; localities = m.localities; points = m.points }

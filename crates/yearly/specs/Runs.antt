@@ -8,7 +8,7 @@ use Rattle.tables.specs.declared.rows.LocalityRow.{LocalityRow}
 use Rattle.tables.specs.declared.rows.PointRow.{PointRow}
 use Rattle.tables.specs.Blank.{no_locality, no_point}
 use Rattle.calls.specs.declared.call.Call.{Call}
-use Rattle.calls.specs.Steps.{when, next}
+use Rattle.units.specs.Steps.{when, next}
 use Rattle.book.specs.declared.answer.Granted.{Granted}
 use Rattle.book.specs.States.{BookState}
 use Rattle.book.specs.Openings.{unused, opening, opened_by, blanked}

@@ -26,7 +26,7 @@ fn run<J: Journal, M: Management>(
     ensures after { standing (state J.Journal M.Management book.new) localities.new points.new ≡ run_after filings.now (standing (state J.Journal M.Management book.old) localities.old points.old) calls.now }
 {
     for i in 0..calls.len() {
-        answers[i] = book.obey(localities, points, filings, calls[i]);
+        answers[i] = book.perform(localities, points, filings, calls[i]);
     }
 }
 

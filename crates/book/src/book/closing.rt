@@ -5,9 +5,8 @@ ghost use Rattle.book.specs.Companies.{moved};
 ghost use Rattle.book.specs.Closings.{closing, balance_of, closed_by, reopening, done};
 
 use super::Book;
-use crate::costs::costs_of;
+use crate::company_costs::costs_of;
 use crate::settlement::settle;
-use calls::deciding::deciding;
 use company::record::Event;
 use journal::entry::{Entry, Kind};
 use journal::kept::Journal;
@@ -30,18 +29,18 @@ impl<J: Journal, M: Management> Book<J, M> {
     {
         let opened = self.opened.as_mut().ok_or(Reason::BookNotOpen.at(0))?;
         let tables = Tables::new(localities, points).ok_or(Reason::PastTable.at(0))?;
-        let number = opened.number;
-        let (mut found, _) = deciding(&opened.companies, number, number, company, Event::Close)?;
+        let number = opened.register.number;
+        let (found, _) = opened.register.meets(number, company, Event::Close)?;
         let costs = costs_of(&self.rule, &found.terms);
-        let amount = settle(&opened.tariff, costs, tables, company, &mut found);
+        let settled = settle(&opened.tariff, costs, tables, company, &found);
         self.journal.append(Entry {
             kind: Kind::Balance,
             company: company as u8,
-            amount,
+            amount: settled.due,
             ..Entry::default()
         })?;
-        opened.companies[company as usize] = Some(found);
-        Ok(amount)
+        opened.register.close(company, settled.balances)?;
+        Ok(settled.due)
     }
 
     /// Reopens a closed company.
@@ -49,8 +48,7 @@ impl<J: Journal, M: Management> Book<J, M> {
         ensures answer { result ≡ done (reopening (state J.Journal M.Management self.old) company) }
         ensures after { state J.Journal M.Management self.new ≡ moved (state J.Journal M.Management self.old) company (reopening (state J.Journal M.Management self.old) company) }
     {
-        let number = self.number();
-        self.moves(number, company, Event::Reopen)?;
-        Ok(())
+        let opened = self.opened.as_mut().ok_or(Reason::BookNotOpen.at(0))?;
+        opened.register.reopen(company)
     }
 }

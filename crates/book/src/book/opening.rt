@@ -8,8 +8,10 @@ use super::Book;
 use crate::opened::Opened;
 use journal::kept::Journal;
 use management::rule::Management;
+use orders::register::Register;
 use tables::blank::blank;
-use tables::rows::{LocalityRow, MOST_LOCALITIES, MOST_POINTS, PointRow};
+use tables::lengths::tables_fit;
+use tables::rows::{LocalityRow, PointRow};
 use tariff::table::Tariff;
 use units::refusal::{Reason, Refusal};
 
@@ -39,7 +41,7 @@ impl<J: Journal, M: Management> Book<J, M> {
         ensures points { points.new ≡ blanked no_point points.old result }
     {
         self.unused()?;
-        if localities.len() > MOST_LOCALITIES || points.len() > MOST_POINTS {
+        if !tables_fit(localities, points) {
             return Err(Reason::PastTable.at(0));
         }
         if number > 65_535 {
@@ -50,9 +52,8 @@ impl<J: Journal, M: Management> Book<J, M> {
         }
         self.opened = Some(Opened {
             tariff: *tariff,
-            number,
             sum,
-            companies: [None; 16],
+            register: Register::new(number),
         });
         blank(localities);
         blank(points);

@@ -6,10 +6,11 @@ ghost use Rattle.book.specs.States.{state};
 ghost use Rattle.book.specs.Questions as asked;
 
 use super::Book;
-use crate::costs::costs_of;
-use crate::settlement::due;
-use calls::asking::{asked_company, asked_locality};
+use crate::company_costs::costs_of;
+use crate::settlement::settle;
+use calls::asking::asked_locality;
 use company::record::Company;
+use costs::capital::{capital_cost, unit_component};
 use journal::entry::Entry;
 use journal::kept::Journal;
 use management::rule::Management;
@@ -32,7 +33,7 @@ impl<J: Journal, M: Management> Book<J, M> {
     {
         let opened = self.opened.as_ref().ok_or(Reason::BookNotOpen.at(0))?;
         let locality = asked_locality(localities, place)?;
-        Ok(locality.capital_cost(&opened.tariff, service))
+        Ok(capital_cost(&locality, &opened.tariff, service))
     }
 
     /// A service's capital cost for each expected point of a locality.
@@ -46,7 +47,7 @@ impl<J: Journal, M: Management> Book<J, M> {
     {
         let opened = self.opened.as_ref().ok_or(Reason::BookNotOpen.at(0))?;
         let locality = asked_locality(localities, place)?;
-        locality.unit_component(&opened.tariff, service, place)
+        unit_component(&locality, &opened.tariff, service, place)
     }
 
     /// How the company at a place stands.
@@ -54,7 +55,7 @@ impl<J: Journal, M: Management> Book<J, M> {
         ensures { result ≡ asked.company (state J.Journal M.Management self.now) place }
     {
         let opened = self.opened.as_ref().ok_or(Reason::BookNotOpen.at(0))?;
-        asked_company(&opened.companies, place)
+        opened.register.asked(place)
     }
 
     /// Lines 1 to 4 of a company's points, at the volume and days on record.
@@ -112,7 +113,7 @@ impl<J: Journal, M: Management> Book<J, M> {
         let opened = self.opened.as_ref().ok_or(Reason::BookNotOpen.at(0))?;
         let (tables, found) = opened.asked(localities, points, company)?;
         let costs = costs_of(&self.rule, &found.terms);
-        Ok(due(&opened.tariff, costs, tables, company, &found))
+        Ok(settle(&opened.tariff, costs, tables, company, &found).due)
     }
 
     /// The equalisation account: what it was opened with and line 6 of the points brought, without what was paid out.

@@ -4,9 +4,7 @@ ghost use Rattle.book.specs.States.{state};
 ghost use Rattle.book.specs.Companies.{registered, registered_by};
 
 use super::Book;
-use calls::registering::registering;
 use company::figures::TermsFigures;
-use company::record::Company;
 use company::terms::Terms;
 use journal::kept::Journal;
 use management::rule::Management;
@@ -19,8 +17,6 @@ impl<J: Journal, M: Management> Book<J, M> {
         ensures after { state J.Journal M.Management self.new ≡ registered_by (state J.Journal M.Management self.old) company result }
     {
         let opened = self.opened.as_mut().ok_or(Reason::BookNotOpen.at(0))?;
-        let terms = registering(&opened.companies, company, figures)?;
-        opened.companies[company as usize] = Some(Company::new(terms));
-        Ok(terms)
+        opened.register.register(company, figures)
     }
 }

@@ -29,7 +29,7 @@ impl<J: Journal, M: Management> Book<J, M> {
         ensures after { localities.new ≡ written (λ l. l) localities.old place result }
     {
         let opened = self.opened.as_ref().ok_or(Reason::BookNotOpen.at(0))?;
-        let row = filing(&opened.companies, localities, place, row)?;
+        let row = filing(&opened.register, localities, place, row)?;
         localities[place as usize] = row;
         Ok(row)
     }
@@ -47,7 +47,7 @@ impl<J: Journal, M: Management> Book<J, M> {
     {
         let opened = self.opened.as_ref().ok_or(Reason::BookNotOpen.at(0))?;
         let records = Records {
-            companies: &opened.companies,
+            register: &opened.register,
             localities,
             points: &*points,
         };
@@ -70,7 +70,7 @@ impl<J: Journal, M: Management> Book<J, M> {
     {
         let opened = self.opened.as_ref().ok_or(Reason::BookNotOpen.at(0))?;
         let records = Records {
-            companies: &opened.companies,
+            register: &opened.register,
             localities,
             points: &*points,
         };

@@ -3,16 +3,17 @@ ghost use Rattle.std.specs.Prelude.{◌≡◌, ◌+◌, ◌*◌, ◌≤◌, pos,
 ghost use Rattle.rounding.specs.Nearness.{Near};
 ghost use Rattle.rounding.specs.Sums.{count_if};
 ghost use Rattle.tables.specs.declared.state.State.TheVariants.{Regime, StartUp};
-ghost use Rattle.tables.specs.Costs.{locality_figure};
+ghost use Rattle.costs.specs.Costs.{locality_figure};
 ghost use Rattle.revenue.specs.Owners.{owns};
 ghost use Rattle.revenue.specs.Billed.{billed};
 ghost use Rattle.revenue.specs.Served.{served};
 ghost use Rattle.revenue.specs.Recognised.{locality_figures, total, recognised, exact_revenue};
 
-use crate::costs::Costs;
+use crate::company_costs::Costs;
 use crate::lent::Tables;
 use crate::parts::Revenue;
 use crate::served::Served;
+use costs::figure::locality_figure;
 use tables::rows::{LocalityRow, Row};
 use tariff::table::Tariff;
 
@@ -32,7 +33,7 @@ fn of_locality(tariff: &Tariff, company: u64, row: &LocalityRow) -> u64
 {
     row.record()
         .filter(|locality| locality.row().company == company)
-        .map_or(0, |locality| locality.figure(tariff))
+        .map_or(0, |locality| locality_figure(&locality, tariff))
 }
 
 impl<'a> Tables<'a> {

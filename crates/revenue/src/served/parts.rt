@@ -3,7 +3,7 @@ ghost use Rattle.std.specs.Prelude.{◌≡◌, ◌+◌, ◌≤◌};
 ghost use Rattle.rounding.specs.Rounding.{rounded};
 ghost use Rattle.revenue.specs.Recognised.{exact_for_points, parts_at, total};
 
-use crate::costs::Costs;
+use crate::company_costs::Costs;
 use crate::parts::Revenue;
 use crate::served::Served;
 use tariff::table::Tariff;

@@ -3,8 +3,8 @@ ghost use Rattle.std.specs.Prelude.{◌≡◌};
 ghost use Rattle.tour.specs.Orders.{state_of, CanCancel};
 
 use crate::keeper::Keeper;
-use book::order::DrawnOrder;
 use lines::{Call, Lines};
+use orders::order::DrawnOrder;
 use tables::rows::PointRow;
 
 impl<'a> Keeper<'a> {

@@ -3,8 +3,8 @@ ghost use Rattle.std.specs.Prelude.{◌≡◌, IfSome};
 ghost use Rattle.tour.specs.Orders.{CanCancel, CanBounce};
 
 use crate::keeper::Keeper;
-use book::order::{DrawnOrder, SentOrder};
 use lines::Lines;
+use orders::order::{DrawnOrder, SentOrder};
 
 impl<'a> Keeper<'a> {
     /// Cancels the order that is out.

@@ -1,7 +1,0 @@
-use Rattle.std.proofs.Common.{◌≡◌, ◌*◌, ◌≤◌, take}
-use Rattle.rounding.specs.Sums.{sum_n}
-use Rattle.tables.specs.Costs.{invested}
-use Rattle.tables.proofs.assets.Assets.invested.Given as goal
-
-abbrev pub invariant-loop-a : goal.invariant-loop-a
-invariant-loop-a l = (l.sum ≡ sum_n invested (take l.a-index l.self.rows.now)) × (l.sum ≤ 20160000000000 * l.a-index)
