@@ -86,7 +86,7 @@ charged_is t p l point dv dd c granted =
     (ap (λ (x : Charged). x.company) (sym is), subst (Charges t l p dv dd) (ap (λ (x : Charged). x.bill) is) (charges t l p dv dd n.0 (at_granted point answer n.0 n.1)))
 
 -- ---- The row
-standing_row : {R : Type 0} (stands : Bool) (row p : R) → cond stands (Some row) None ≡ Some p → (stands ≡ true) × (row ≡ p)
+pub standing_row : {R : Type 0} (stands : Bool) (row p : R) → cond stands (Some row) None ≡ Some p → (stands ≡ true) × (row ≡ p)
 standing_row true row p stood = (refl, cc)
 standing_row false row p stood = cc
 

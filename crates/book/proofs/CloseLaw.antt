@@ -26,11 +26,11 @@ use Rattle.book.proofs.Events.{event_granted, account_put, company_put, others_p
 use Rattle.book.proofs.Noting.{balance_no_change, balance_no_advances, balance_payment}
 
 -- an order that is out refuses a closing
-none_out : (p : Phase) (k : ℕ) → close_answer p ≡ Ok k → p ≡ Free
-none_out Free k granted = refl
-none_out (Drawn j) k granted = cc
-none_out (Sent j) k granted = cc
-none_out Closed k granted = cc
+pub close_free : (p : Phase) (k : ℕ) → close_answer p ≡ Ok k → p ≡ Free
+close_free Free k granted = refl
+close_free (Drawn j) k granted = cc
+close_free (Sent j) k granted = cc
+close_free Closed k granted = cc
 
 -- a figure that is asked of a company which stands, with tables that fit
 told_of : (fit in_table : Bool) (there : Option Company) (place : ℕ) (figure : Company → Cents) (c : Company) → fit ≡ true → in_table ≡ true → there ≡ Some c → when fit PastTable 0 (next (when in_table PastTable place (found there place (λ c. Ok c))) (λ c. Ok (figure c))) ≡ Ok (figure c)
@@ -64,7 +64,7 @@ module _ (o : Opened) (price : ℕ → ℕ → ℕ → ℕ) (localities : List L
       record {
         c = g.c;
         stood = g.stood;
-        free = none_out g.c.phase q.0.1 g.answer;
+        free = close_free g.c.phase q.0.1 g.answer;
         told = told_of (tables_fit localities points) (ltb place 16) (company_at o.register.companies place) place owed g.c fit.0 in_table.0 g.stood ∙ ap Ok (sym amount);
         amount = amount;
         after = ap (λ (x : Company × Cents). x.0) is ∙ ap (λ (c : Company). settled c (settles c)) g.after;

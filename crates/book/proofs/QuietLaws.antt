@@ -94,13 +94,13 @@ pub not_standing : (stands : Bool) (row : PointRow) → not (is_some (cond stand
 not_standing true row none = cc
 not_standing false row none = refl
 
-nothing_billed : (t : TariffFigures) (row : PointRow) → row.volume ≡ 0 → point_ug1 t row ≡ 0
+pub nothing_billed : (t : TariffFigures) (row : PointRow) → row.volume ≡ 0 → point_ug1 t row ≡ 0
 nothing_billed t row none =
     let least = rounded_at_most_whole (t.ug1.0 * row.volume) 1000000 in
     let nothing : t.ug1.0 * row.volume ≡ 0 = ap (λ (v : ℕ). t.ug1.0 * v) none ∙ omega arith in
     omega arith
 
-cond_nothing : (stands : Bool) (amount : ℕ) → amount ≡ 0 → cond stands amount 0 ≡ 0
+pub cond_nothing : (stands : Bool) (amount : ℕ) → amount ≡ 0 → cond stands amount 0 ≡ 0
 cond_nothing true amount nothing = nothing
 cond_nothing false amount nothing = refl
 

@@ -46,6 +46,7 @@ use Rattle.book.specs.JournalSums.{is_bill, charge_to, charged_to}
 use Rattle.units.proofs.Granted.{when_granted, next_granted, both_granted}
 use Rattle.book.proofs.Events.{event_granted}
 use Rattle.book.proofs.Bills.{GrantedBill, bill_granted}
+use Rattle.book.proofs.QuietLaws.{nothing_billed, cond_nothing}
 use Rattle.book.proofs.BillLaw.{still_stands, year_days}
 use Rattle.orders.proofs.OrderLaws.{order_laws}
 use Rattle.yearly.specs.Histories.{Told, History, or_else, terms_of, filing_of, enrolment_of}
@@ -53,7 +54,7 @@ use Rattle.yearly.specs.Entries.{locality_in, seat_in, company_of, entry_told, p
 use Rattle.yearly.proofs.Stories.{Held}
 use Rattle.yearly.proofs.Ties.{Fixed, Moving, book_at, state_at, story, PointTied, Tied}
 use Rattle.yearly.proofs.Grants.{Filed as GrantedFiling, filing_granted, unbilled, Enrolled as GrantedEnrolling, enrolling_granted}
-use Rattle.yearly.proofs.Sums.{refiled_billed, none_due, none_gs, none_ug1, if_none, gs_set}
+use Rattle.yearly.proofs.Sums.{refiled_billed, none_due, none_gs, gs_set}
 use Rattle.yearly.proofs.Booked.{Enrolled, Filed, Standing, Adds, Tells, Booked, BookedIn, there, none_before, Later, Same, standing_later, tells_later, tells_more, adds_payment, Silent, unaltered, refused, spoken}
 
 -- ---- What is told last
@@ -255,18 +256,18 @@ module _ (y : Fixed) (h : History) (m : Moving) (T : Tied y h m) (B : Booked y h
               lines = λ company.
                   let replaced = billed_set t m.localities m.points company point new no_point g.within in
                   let before = cond-false (serves m.localities company old) (point_tariff t (seat m.localities old) old) 0 (ap (λ (b : Bool). b && owns company (seat m.localities old)) g.blank) in
-                  let after = if_none (serves m.localities company new) (point_tariff t (seat m.localities new) new) (none_due t (seat m.localities new) new refl refl) in
+                  let after = cond_nothing (serves m.localities company new) (point_tariff t (seat m.localities new) new) (none_due t (seat m.localities new) new refl refl) in
                   let lines = B.adds.lines company in
                   omega (arith, ints, replaced, before, after, lines);
               ug1 =
                   let replaced = ug1_set t m.points point new no_point g.within in
                   let before = cond-false (point_stands old) (point_ug1 t old) 0 g.blank in
-                  let after = if_none (point_stands new) (point_ug1 t new) (none_ug1 t new refl) in
+                  let after = cond_nothing (point_stands new) (point_ug1 t new) (nothing_billed t new refl) in
                   omega (arith, ints, replaced, before, after, B.adds.ug1);
               gs =
                   let replaced = gs_set t m.points point new no_point g.within in
                   let before = cond-false (point_stands old) (point_gs t old) 0 g.blank in
-                  let after = if_none (point_stands new) (point_gs t new) (none_gs t new refl) in
+                  let after = cond_nothing (point_stands new) (point_gs t new) (none_gs t new refl) in
                   omega (arith, ints, replaced, before, after, B.adds.gs);
             };
         tells =

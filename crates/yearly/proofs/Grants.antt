@@ -19,6 +19,7 @@ use Rattle.orders.specs.Registers.{Companies, company_at, after_event}
 use Rattle.tables.specs.Lengths.{tables_fit}
 use Rattle.calls.specs.Decisions.{enrolled_within, filing, enrolling, seated, billing}
 use Rattle.units.proofs.Granted.{when_granted, found_granted, next_granted, same}
+use Rattle.book.proofs.Bills.{standing_row}
 use Rattle.book.proofs.QuietLaws.{not_standing}
 use Rattle.yearly.proofs.Foreign.{Active, active_at}
 
@@ -106,15 +107,7 @@ filing_granted companies localities place row filed granted =
 
 -- ---- A row that stands
 
-standing_row : {R : Type 0} (stands : Bool) (row found : R) → cond stands (Some row) None ≡ Some found → row ≡ found
-standing_row true row found stood = cc
-standing_row false row found stood = cc
-
-row_stands : {R : Type 0} (stands : Bool) (row found : R) → cond stands (Some row) None ≡ Some found → stands ≡ true
-row_stands true row found stood = refl
-row_stands false row found stood = cc
-
-seat_is : (localities : List LocalityRow) (place : ℕ) (l : LocalityRow) → locality_at localities place ≡ Some l → get_or localities place past_table ≡ l
+seat_is : (localities : List LocalityRow) (place : ℕ) (l : LocalityRow) → locality_at localities place ≡ Some l → (locality_stands (get_or localities place past_table) ≡ true) × (get_or localities place past_table ≡ l)
 seat_is localities place l stood = standing_row (locality_stands (get_or localities place past_table)) (get_or localities place past_table) l stood
 
 -- ---- Enrolling
@@ -154,14 +147,15 @@ enrolling_granted companies localities points point e row granted =
     let new = next_granted (enrolled_within e.locality e.class e.domestic) _ row free.1 in
     let open_company = next_granted (after_event company.0 locality.0.company Enrol) _ row new.2 in
     let found = get_or localities e.locality past_table in
-    let seat : found.company ≡ locality.0.company = ap (λ (l : LocalityRow). l.company) (seat_is localities e.locality locality.0 locality.1) in
+    let found_is = seat_is localities e.locality locality.0 locality.1 in
+    let seat : found.company ≡ locality.0.company = ap (λ (l : LocalityRow). l.company) found_is.1 in
     let row_is = enrolled_row e new.0 new.1 in
     let few = leb-true (length localities) 256 (and_parts (leb (length localities) 256) (leb (length points) 65536) fit.0).0 in
     let seated = ltb-true e.locality (length localities) locality_in.0 in
     record {
       within = ltb-true _ _ point_in.0;
       seated = seated;
-      seat_stands = row_stands (locality_stands found) found locality.0 locality.1;
+      seat_stands = found_is.0;
       blank = not_standing (point_stands (get_or points point no_point)) (get_or points point no_point) free.0;
       active = subst (Active companies) (sym seat) (active_at companies locality.0.company company.0 Enrol open_company.0 company.1 refl open_company.1);
       is = sym (same _ row open_company.2) ∙ row_is.0;
@@ -181,6 +175,6 @@ billing_active t companies localities points point dv dd c granted =
     let l = found_granted (locality_at localities p.0.locality) _ _ seating.0 p.2 in
     let company = found_granted (company_at companies l.0.company) _ _ seating.0 l.2 in
     let open_company = next_granted (after_event company.0 l.0.company BillEvent) _ seating.0 company.2 in
-    let row : old ≡ p.0 = standing_row (point_stands old) old p.0 p.1 in
-    let seat : (seat localities old).company ≡ l.0.company = ap (λ (q : PointRow). (seat localities q).company) row ∙ ap (λ (x : LocalityRow). x.company) (seat_is localities p.0.locality l.0 l.1) in
+    let row = (standing_row (point_stands old) old p.0 p.1).1 in
+    let seat : (seat localities old).company ≡ l.0.company = ap (λ (q : PointRow). (seat localities q).company) row ∙ ap (λ (x : LocalityRow). x.company) (seat_is localities p.0.locality l.0 l.1).1 in
     subst (Active companies) (sym seat) (active_at companies l.0.company company.0 BillEvent open_company.0 company.1 refl open_company.1)

@@ -12,13 +12,14 @@ use Rattle.company.specs.declared.record.Event.TheVariants.{Draw, Cancel, Send, 
 use Rattle.company.specs.declared.record.Phase.{Phase}
 use Rattle.company.specs.declared.record.Phase.TheVariants.{Free, Drawn, Sent, Closed}
 use Rattle.company.specs.declared.terms.Terms.{Terms}
-use Rattle.company.specs.Events.{act_answer, moved, draw_answer, close_answer, reopen_answer, new_company}
+use Rattle.company.specs.Events.{act_answer, moved, draw_answer, reopen_answer, new_company}
 use Rattle.company.specs.Instalments.{paid_up_to, instalment}
 use Rattle.company.proofs.Instalments.{none_paid}
 use Rattle.orders.specs.Orders.{settled}
 use Rattle.book.specs.JournalSums.{Advanced}
 use Rattle.orders.specs.Laws.{outs}
 use Rattle.book.specs.Questions.{paid_out}
+use Rattle.book.proofs.CloseLaw.{close_free}
 use Rattle.orders.proofs.OrderLaws.{order_laws}
 use Rattle.yearly.specs.YearRules.{instalments}
 
@@ -85,12 +86,6 @@ draw_free Free paid n k granted =
 draw_free (Drawn j) paid n k granted = cc
 draw_free (Sent j) paid n k granted = cc
 draw_free Closed paid n k granted = cc
-
-close_free : (p : Phase) (k : ℕ) → close_answer p ≡ Ok k → p ≡ Free
-close_free Free k granted = refl
-close_free (Drawn j) k granted = cc
-close_free (Sent j) k granted = cc
-close_free Closed k granted = cc
 
 reopen_closed : (p : Phase) (k : ℕ) → reopen_answer p ≡ Ok k → p ≡ Closed
 reopen_closed Free k granted = cc

@@ -102,13 +102,6 @@ none_due t l p volume days =
 pub none_gs : (t : TariffFigures) (p : PointRow) → p.volume ≡ 0 → point_gs t p ≡ 0
 none_gs t p volume = none_rounded (cond (eqb p.domestic 1) 0 t.gs.0 * p.volume) 1000000 (none_times _ p.volume volume)
 
-pub none_ug1 : (t : TariffFigures) (p : PointRow) → p.volume ≡ 0 → point_ug1 t p ≡ 0
-none_ug1 t p volume = none_rounded (t.ug1.0 * p.volume) 1000000 (none_times _ p.volume volume)
-
-pub if_none : (b : Bool) (n : ℕ) → n ≡ 0 → cond b n 0 ≡ 0
-if_none true n none = none
-if_none false n none = refl
-
 -- ---- A point's row is replaced
 
 pub gs_set : (t : TariffFigures) (ps : List PointRow) (i : ℕ) (new d : PointRow) → i < length ps → gs_due t (set ps i new) + cond (point_stands (get_or ps i d)) (point_gs t (get_or ps i d)) 0 ≡ gs_due t ps + cond (point_stands new) (point_gs t new) 0
