@@ -67,14 +67,11 @@ impl<'a> Lines<'a> {
     pub fn refused(&mut self, call: Call<'_>, refusal: Refusal)
         ensures first { OnErr self.old.printed (self.new.printed ≡ self.old.printed) }
     {
+        let (number, layer) = (refusal.number(), refusal.layer().number());
+        let place = refusal.place;
         self.print(
             call,
-            format_args!(
-                "refusal {}, layer {}, place {}",
-                refusal.number(),
-                refusal.layer().number(),
-                refusal.place,
-            ),
+            format_args!("refusal {number}, layer {layer}, place {place}"),
         );
     }
 

@@ -60,12 +60,21 @@ pub fn write_locality<W: fmt::Write>(
         ("unit component of distribution", Service::Distribution),
         ("unit component of metering", Service::Metering),
     ] {
-        match unit_component(locality, tariff, service, place) {
-            Ok(component) => writeln!(out, "  {name:<31}{component:>20} millionths of a euro")?,
-            Err(refusal) => writeln!(out, "  {name}: {refusal}")?,
-        }
+        write_component(out, name, unit_component(locality, tariff, service, place))?;
     }
     Ok(())
+}
+
+// A unit component, or why there is none.
+fn write_component<W: fmt::Write>(
+    out: &mut W,
+    name: &str,
+    component: Result<u64, Refusal>,
+) -> fmt::Result {
+    match component {
+        Ok(component) => writeln!(out, "  {name:<31}{component:>20} millionths of a euro"),
+        Err(refusal) => writeln!(out, "  {name}: {refusal}"),
+    }
 }
 
 /// What a company's year comes to.
