@@ -6,7 +6,7 @@ use book::answer::Granted;
 use book::book::Book;
 use calls::call::Call;
 use journal::entry::Entry;
-use journal::lent::LentJournal;
+use journal::lent_journal::LentJournal;
 use management::municipal::Municipal;
 use std::alloc::Global;
 use tables::lengths::{MOST_LOCALITIES, MOST_POINTS};

@@ -9,17 +9,16 @@ use Rattle.tariff.proofs.Lawful.{held}
 use Rattle.tables.specs.declared.rows.LocalityRow.{LocalityRow}
 use Rattle.tables.specs.declared.rows.PointRow.{PointRow}
 use Rattle.tables.specs.Blank.{no_point}
-use Rattle.tables.specs.PointRows.{point_stands}
+use Rattle.tables.specs.PointRows.{point_stands, billed_row}
 use Rattle.tables.proofs.Holding.{point_held}
-use Rattle.revenue.specs.Owners.{seat}
+use Rattle.revenue.specs.Owners.{point_locality}
 use Rattle.revenue.specs.Ug1.{point_ug1, ug1_due}
 use Rattle.revenue.proofs.Replacing.{ug1_set}
 use Rattle.calls.specs.declared.billing.Charged.{Charged}
 use Rattle.calls.specs.Decisions.{billing as billing_in}
-use Rattle.book.specs.declared.opened.Opened.{Opened}
+use Rattle.opened.specs.declared.record.Opened.{Opened}
 use Rattle.book.specs.States.{BookState, with_opened}
 use Rattle.book.specs.Rows.{billing, bill_entry, billed_by}
-use Rattle.book.specs.Tables.{billed_row}
 use Rattle.book.specs.Laws.{account_in, row_of, BillEntry, Billed, points_billed, BillLaw}
 use Rattle.units.proofs.Granted.{both_granted}
 use Rattle.book.proofs.Events.{on_record}
@@ -62,18 +61,18 @@ module _ (o : Opened) (localities : List LocalityRow) (points : List PointRow) (
 bill_of_open : (o : Opened) (b : BookState) (localities : List LocalityRow) (points : List PointRow) (point : ℕ) (dv dd : ℤ) (c : Charged) → billing (with_opened b (Some o)) localities points point dv dd ≡ Ok c → Billed o localities (with_opened b (Some o)) (billed_by (with_opened b (Some o)) point dv dd (Ok c)) points (points_billed points point c) point dv dd c
 bill_of_open o b localities points point dv dd c granted =
     let answer = billing_in o.tariff.figures o.register.companies localities points point dv dd in
-    let g = bill_granted o.tariff.figures o.register.companies localities points point dv dd c (both_granted answer (append_answer b.room b.entries) c granted) in
+    let g = bill_granted o.tariff.figures o.register.companies localities points point dv dd c (both_granted answer (append_answer b.capacity b.entries) c granted) in
     let t = o.tariff.figures in
     let old = row_of points point in
     let new = billed_row old c.bill in
     let row : row_of (set points point new) point ≡ new = get_or-set_same points point new no_point g.within in
     let entry = bill_entry c point dv dd in
-    let booked : BillEntry t (seat localities old) old new point dv dd entry =
+    let booked : BillEntry t (point_locality localities old) old new point dv dd entry =
     record { kind = refl; place = refl; volume = refl; days = refl; company = g.company; amount = g.charges.tariff; ug1 = g.charges.ug1; other = g.charges.gs } in
     record {
       entry = entry;
       entries = refl;
-      booked = subst (λ (p : PointRow). BillEntry t (seat localities old) old p point dv dd entry) (sym row) booked;
+      booked = subst (λ (p : PointRow). BillEntry t (point_locality localities old) old p point dv dd entry) (sym row) booked;
       amount = refl;
       ug1 = refl;
       other = refl;

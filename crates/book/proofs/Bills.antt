@@ -12,8 +12,8 @@ use Rattle.tables.specs.declared.rows.PointRow.{PointRow}
 use Rattle.tables.specs.Blank.{no_point, past_table}
 use Rattle.tables.specs.Filings.{locality_stands}
 use Rattle.tables.specs.Lookups.{locality_at, point_at}
-use Rattle.tables.specs.PointRows.{point_stands}
-use Rattle.revenue.specs.Owners.{seat}
+use Rattle.tables.specs.PointRows.{point_stands, billed_row}
+use Rattle.revenue.specs.Owners.{point_locality}
 use Rattle.revenue.specs.Billed.{point_tariff}
 use Rattle.revenue.specs.Ug1.{point_ug1}
 use Rattle.revenue.specs.Gs.{point_gs}
@@ -21,8 +21,7 @@ use Rattle.company.specs.declared.record.Event.TheVariants.{Bill as BillEvent}
 use Rattle.calls.specs.declared.billing.Charged.{Charged}
 use Rattle.orders.specs.Registers.{Companies, company_at, after_event}
 use Rattle.tables.specs.Lengths.{tables_fit}
-use Rattle.calls.specs.Decisions.{seated, charged, billing}
-use Rattle.book.specs.Tables.{billed_row}
+use Rattle.calls.specs.Decisions.{point_to_bill, charged, billing}
 use Rattle.units.proofs.Granted.{when_granted, found_granted, next_granted, at_granted, same}
 
 -- ---- The amounts
@@ -94,11 +93,11 @@ pub record Seated (localities : List LocalityRow) (points : List PointRow) (poin
   pub within : point < length points
   pub stands : point_stands (get_or points point no_point) ≡ true
   pub row : get_or points point no_point ≡ p
-  pub seat_stands : locality_stands (seat localities p) ≡ true
-  pub seat : seat localities p ≡ l
+  pub point_locality_stands : locality_stands (point_locality localities p) ≡ true
+  pub point_locality : point_locality localities p ≡ l
 
-seat_is : (companies : Companies) (localities : List LocalityRow) (points : List PointRow) (point : ℕ) (found : PointRow × LocalityRow) → seated companies localities points point ≡ Ok found → Seated localities points point found.0 found.1
-seat_is companies localities points point found granted =
+point_locality_is : (companies : Companies) (localities : List LocalityRow) (points : List PointRow) (point : ℕ) (found : PointRow × LocalityRow) → point_to_bill companies localities points point ≡ Ok found → Seated localities points point found.0 found.1
+point_locality_is companies localities points point found granted =
     let fit = when_granted (tables_fit localities points) _ _ _ found granted in
     let point_in = when_granted (ltb point (length points)) _ _ _ found fit.1 in
     let p = found_granted (point_at points point) _ _ found point_in.1 in
@@ -106,7 +105,7 @@ seat_is companies localities points point found granted =
     let company = found_granted (company_at companies l.0.company) _ _ found l.2 in
     let opened = next_granted (after_event company.0 l.0.company BillEvent) _ found company.2 in
     let row = standing_row (point_stands (get_or points point no_point)) (get_or points point no_point) p.0 p.1 in
-    let seating = standing_row (locality_stands (get_or localities p.0.locality past_table)) (get_or localities p.0.locality past_table) l.0 l.1 in
+    let located = standing_row (locality_stands (get_or localities p.0.locality past_table)) (get_or localities p.0.locality past_table) l.0 l.1 in
     let is = same _ found opened.2 in
     let point_is : p.0 ≡ found.0 = ap (λ (x : PointRow × LocalityRow). x.0) is in
     let locality_is : l.0 ≡ found.1 = ap (λ (x : PointRow × LocalityRow). x.1) is in
@@ -114,28 +113,28 @@ seat_is companies localities points point found granted =
       within = ltb-true _ _ point_in.0;
       stands = row.0;
       row = row.1 ∙ point_is;
-      seat_stands = ap (λ (q : PointRow). locality_stands (seat localities q)) (sym point_is) ∙ seating.0;
-      seat = ap (seat localities) (sym point_is) ∙ seating.1 ∙ locality_is;
+      point_locality_stands = ap (λ (q : PointRow). locality_stands (point_locality localities q)) (sym point_is) ∙ located.0;
+      point_locality = ap (point_locality localities) (sym point_is) ∙ located.1 ∙ locality_is;
     }
 
 -- the point stands in the table, its locality stands, and the bill charges its row and names that locality's company
 pub record GrantedBill (t : TariffFigures) (localities : List LocalityRow) (points : List PointRow) (point : ℕ) (dv dd : ℤ) (c : Charged) : Type 0 where
   pub within : point < length points
   pub stands : point_stands (get_or points point no_point) ≡ true
-  pub seat_stands : locality_stands (seat localities (get_or points point no_point)) ≡ true
-  pub company : c.company ≡ (seat localities (get_or points point no_point)).company
-  pub charges : Charges t (seat localities (get_or points point no_point)) (get_or points point no_point) dv dd c.bill
+  pub point_locality_stands : locality_stands (point_locality localities (get_or points point no_point)) ≡ true
+  pub company : c.company ≡ (point_locality localities (get_or points point no_point)).company
+  pub charges : Charges t (point_locality localities (get_or points point no_point)) (get_or points point no_point) dv dd c.bill
 
 pub bill_granted : (t : TariffFigures) (companies : Companies) (localities : List LocalityRow) (points : List PointRow) (point : ℕ) (dv dd : ℤ) (c : Charged) → billing t companies localities points point dv dd ≡ Ok c → GrantedBill t localities points point dv dd c
 bill_granted t companies localities points point dv dd c granted =
-    let seating = next_granted (seated companies localities points point) _ c granted in
-    let s = seat_is companies localities points point seating.0 seating.1 in
-    let charged = charged_is t seating.0.0 seating.0.1 point dv dd c seating.2 in
-    let seat_row : seat localities (get_or points point no_point) ≡ seating.0.1 = ap (seat localities) s.row ∙ s.seat in
+    let located = next_granted (point_to_bill companies localities points point) _ c granted in
+    let s = point_locality_is companies localities points point located.0 located.1 in
+    let charged = charged_is t located.0.0 located.0.1 point dv dd c located.2 in
+    let point_locality_row : point_locality localities (get_or points point no_point) ≡ located.0.1 = ap (point_locality localities) s.row ∙ s.point_locality in
     record {
       within = s.within;
       stands = s.stands;
-      seat_stands = ap (λ (p : PointRow). locality_stands (seat localities p)) s.row ∙ s.seat_stands;
-      company = charged.0 ∙ ap (λ (l : LocalityRow). l.company) (sym seat_row);
-      charges = subst (λ (p : PointRow). Charges t (seat localities (get_or points point no_point)) p dv dd c.bill) (sym s.row) (subst (λ (l : LocalityRow). Charges t l seating.0.0 dv dd c.bill) (sym seat_row) charged.1);
+      point_locality_stands = ap (λ (p : PointRow). locality_stands (point_locality localities p)) s.row ∙ s.point_locality_stands;
+      company = charged.0 ∙ ap (λ (l : LocalityRow). l.company) (sym point_locality_row);
+      charges = subst (λ (p : PointRow). Charges t (point_locality localities (get_or points point no_point)) p dv dd c.bill) (sym s.row) (subst (λ (l : LocalityRow). Charges t l located.0.0 dv dd c.bill) (sym point_locality_row) charged.1);
     }

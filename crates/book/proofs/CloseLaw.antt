@@ -14,12 +14,12 @@ use Rattle.company.specs.Events.{close_answer, advances}
 use Rattle.orders.specs.Registers.{company_at, deciding}
 use Rattle.tables.specs.Lengths.{tables_fit}
 use Rattle.units.specs.Steps.{when, found, next}
-use Rattle.book.specs.declared.opened.Opened.{Opened}
+use Rattle.opened.specs.declared.record.Opened.{Opened}
 use Rattle.orders.specs.Registers.{with_company}
 use Rattle.book.specs.States.{BookState, with_opened, with_register}
 use Rattle.orders.specs.Orders.{settled}
-use Rattle.book.specs.Closings.{settling, closing, balance_entry, closed_by}
-use Rattle.book.specs.Questions.{asked, price_for, settlement, due, paid_out}
+use Rattle.book.specs.Closings.{settling, close_decision, balance_entry, closed_by}
+use Rattle.opened.specs.Figures.{asked, price_for, settlement, due, paid_out}
 use Rattle.book.specs.Laws.{YearClosed, CloseLaw}
 use Rattle.units.proofs.Granted.{when_granted, next_granted, both_granted, same}
 use Rattle.book.proofs.Events.{event_granted, account_put, company_put, others_put, on_record}
@@ -33,8 +33,8 @@ close_free (Sent j) k granted = cc
 close_free Closed k granted = cc
 
 -- a figure that is asked of a company which stands, with tables that fit
-told_of : (fit in_table : Bool) (there : Option Company) (place : ℕ) (figure : Company → Cents) (c : Company) → fit ≡ true → in_table ≡ true → there ≡ Some c → when fit PastTable 0 (next (when in_table PastTable place (found there place (λ c. Ok c))) (λ c. Ok (figure c))) ≡ Ok (figure c)
-told_of fit in_table there place figure c fits within stands = rw fits (rw within (rw stands refl))
+answer_at : (fit in_table : Bool) (there : Option Company) (place : ℕ) (figure : Company → Cents) (c : Company) → fit ≡ true → in_table ≡ true → there ≡ Some c → when fit PastTable 0 (next (when in_table PastTable place (found there place (λ c. Ok c))) (λ c. Ok (figure c))) ≡ Ok (figure c)
+answer_at fit in_table there place figure c fits within stands = rw fits (rw within (rw stands refl))
 
 module _ (o : Opened) (price : ℕ → ℕ → ℕ → ℕ) (localities : List LocalityRow) (points : List PointRow) (place : ℕ) where
   -- the settlement of a company, and what is due to it
@@ -49,7 +49,7 @@ module _ (o : Opened) (price : ℕ → ℕ → ℕ → ℕ) (localities : List L
     pub c : Company
     pub stood : company_at o.register.companies place ≡ Some c
     pub free : c.phase ≡ Free
-    pub told : asked o localities points place owed ≡ Ok d.1
+    pub was_due : asked o localities points place owed ≡ Ok d.1
     pub amount : d.1 ≡ owed c
     pub after : d.0 ≡ record { terms = c.terms; paid = c.paid; phase = Closed; balances = settles c }
 
@@ -65,21 +65,21 @@ module _ (o : Opened) (price : ℕ → ℕ → ℕ → ℕ) (localities : List L
         c = g.c;
         stood = g.stood;
         free = close_free g.c.phase q.0.1 g.answer;
-        told = told_of (tables_fit localities points) (ltb place 16) (company_at o.register.companies place) place owed g.c fit.0 in_table.0 g.stood ∙ ap Ok (sym amount);
+        was_due = answer_at (tables_fit localities points) (ltb place 16) (company_at o.register.companies place) place owed g.c fit.0 in_table.0 g.stood ∙ ap Ok (sym amount);
         amount = amount;
         after = ap (λ (x : Company × Cents). x.0) is ∙ ap (λ (c : Company). settled c (settles c)) g.after;
       }
 
 -- the closing of a book with o on record
-close_of_open : (o : Opened) (b : BookState) (localities : List LocalityRow) (points : List PointRow) (company : ℕ) (d : Company × Cents) → closing (with_opened b (Some o)) localities points company ≡ Ok d → YearClosed localities points o (with_opened b (Some o)) (closed_by (with_opened b (Some o)) company (Ok d)) company d.1
+close_of_open : (o : Opened) (b : BookState) (localities : List LocalityRow) (points : List PointRow) (company : ℕ) (d : Company × Cents) → close_decision (with_opened b (Some o)) localities points company ≡ Ok d → YearClosed localities points o (with_opened b (Some o)) (closed_by (with_opened b (Some o)) company (Ok d)) company d.1
 close_of_open o b localities points company d granted =
-    let g = closing_granted o b.price localities points company d (both_granted _ (append_answer b.room b.entries) d granted) in
+    let g = closing_granted o b.price localities points company d (both_granted _ (append_answer b.capacity b.entries) d granted) in
     let balances : d.0.balances ≡ g.c.balances +ℤ d.1.0 =
     let new = ap (λ (c : Company). c.balances) g.after in let amount = ap (λ (z : Cents). z.0) g.amount in omega (arith, ints) in
     let out : paid_out (Some d.0) ≡ paid_out (Some g.c) +ℤ d.1.0 =
     let new = ap (λ (c : Company). advances c) g.after in omega (arith, ints) in
     record {
-      told = g.told;
+      was_due = g.was_due;
       entry = balance_entry company d.1;
       entries = refl;
       booked = record { kind = refl; company = refl; amount = refl; place = refl; volume = refl; days = refl; ug1 = refl; other = refl };
@@ -103,5 +103,5 @@ close_of_open o b localities points company d granted =
 
 pub close_law : CloseLaw
 close_law b o localities points company d opened =
-    subst (λ (b : BookState). closing b localities points company ≡ Ok d → YearClosed localities points o b (closed_by b company (Ok d)) company d.1)
+    subst (λ (b : BookState). close_decision b localities points company ≡ Ok d → YearClosed localities points o b (closed_by b company (Ok d)) company d.1)
     (sym (on_record b o opened)) (close_of_open o b localities points company d)

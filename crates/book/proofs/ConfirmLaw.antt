@@ -5,7 +5,7 @@ use Rattle.tables.specs.declared.rows.PointRow.{PointRow}
 use Rattle.journal.specs.Appending.{append_answer}
 use Rattle.company.specs.declared.record.Company.{Company}
 use Rattle.company.specs.declared.record.Event.TheVariants.{Confirm}
-use Rattle.book.specs.declared.opened.Opened.{Opened}
+use Rattle.opened.specs.declared.record.Opened.{Opened}
 use Rattle.book.specs.States.{put}
 use Rattle.orders.specs.Payments.{amount_paid}
 use Rattle.book.specs.Companies.{decided}
@@ -27,7 +27,7 @@ module _ (opened : Option Opened) (place j : ℕ) (d : Company × ℕ) (g : Gran
 
 pub confirm_law : ConfirmLaw
 confirm_law b o d granted =
-    let g = event_granted b.opened o.book o.company (Confirm o.instalment) d (both_granted (decided b o.book o.company (Confirm o.instalment)) (append_answer b.room b.entries) d granted) in
+    let g = event_granted b.opened o.book o.company (Confirm o.instalment) d (both_granted (decided b o.book o.company (Confirm o.instalment)) (append_answer b.capacity b.entries) d granted) in
     record {
       volume = no_change b.entries o.company d.1 (amount_paid d) (λ e. e.volume);
       days = no_change b.entries o.company d.1 (amount_paid d) (λ e. e.days);

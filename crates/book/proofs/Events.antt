@@ -9,10 +9,10 @@ use Rattle.company.specs.declared.record.Event.{Event}
 use Rattle.orders.specs.Orders.{decision}
 use Rattle.orders.proofs.Events as register
 use Rattle.orders.proofs.Events.{GrantedEvent}
-use Rattle.book.specs.declared.opened.Opened.{Opened}
+use Rattle.opened.specs.declared.record.Opened.{Opened}
 use Rattle.book.specs.States.{BookState, when_open, with_opened, put}
 use Rattle.book.specs.Laws.{company_in, account_in}
-use Rattle.book.specs.Questions.{paid_out}
+use Rattle.opened.specs.Figures.{paid_out}
 
 pub event_granted : (opened : Option Opened) (number place : ℕ) (e : Event) (d : Company × ℕ) → when_open opened (λ o. decision o.register number place e) ≡ Ok d → GrantedEvent (company_in opened place) e d
 event_granted None number place e d granted = cc

@@ -20,20 +20,20 @@ use Rattle.company.specs.declared.record.Company.{Company}
 use Rattle.company.specs.declared.record.Event.{Event}
 use Rattle.company.specs.declared.record.Event.TheVariants.{Enrol, Draw, Cancel, Send, Bounce, Reopen}
 use Rattle.company.specs.declared.terms.Terms.{Terms}
-use Rattle.company.specs.Events.{new_company, moved as company_moved, paid_after}
+use Rattle.company.specs.Events.{new_company, company_after, paid_after}
 use Rattle.company.specs.Instalments.{paid_up_to}
 use Rattle.company.proofs.Instalments.{none_paid}
 use Rattle.calls.specs.declared.enrolling.Enrolment.{Enrolment}
 use Rattle.orders.specs.Registers.{Companies, company_at, after_event, registering}
 use Rattle.tables.specs.Lengths.{tables_fit}
 use Rattle.calls.specs.Decisions.{enrolled_within, enrolling as enrolling_in}
-use Rattle.book.specs.declared.opened.Opened.{Opened}
+use Rattle.opened.specs.declared.record.Opened.{Opened}
 use Rattle.book.specs.States.{BookState, when_open, altered, put}
-use Rattle.book.specs.Companies.{registered, registered_by, number_of, decided, drawing, cancelling, sending, bouncing, moved}
-use Rattle.book.specs.Closings.{reopening}
+use Rattle.book.specs.Companies.{register_answer, book_with_terms, number_of, decided, draw_decision, cancel_decision, send_decision, bounce_decision, book_after_event}
+use Rattle.book.specs.Closings.{reopen_decision}
 use Rattle.book.specs.Rows.{enrolling}
 use Rattle.book.specs.Tables.{written}
-use Rattle.book.specs.Questions.{paid_out}
+use Rattle.opened.specs.Figures.{paid_out}
 use Rattle.book.specs.Laws.{account_in, Quiet, QuietLaws}
 use Rattle.units.proofs.Granted.{when_granted, found_granted, both_granted, same}
 use Rattle.book.proofs.Events.{event_granted, account_put}
@@ -45,11 +45,11 @@ unaltered (Some o) = refl
 
 -- ---- An event of a company, after which as many instalments are paid as before
 module _ (e : Event) (paid_stays : (paid k : ℕ) → paid_after paid e k ≡ paid) where
-  paid_out_stays : (c : Company) (k : ℕ) → paid_out (Some (company_moved c e (Ok k))) ≡ paid_out (Some c)
+  paid_out_stays : (c : Company) (k : ℕ) → paid_out (Some (company_after c e (Ok k))) ≡ paid_out (Some c)
   paid_out_stays c k =
       ap (λ (n : ℕ). paid_up_to c.terms.figures.advance c.terms.figures.instalments n +ℤ c.balances) (paid_stays c.paid k)
 
-  event_quiet : (b : BookState) (points : List PointRow) (number place : ℕ) (answer : Result (Company × ℕ) Refusal) → decided b number place e ≡ answer → Quiet b (moved b place answer) points points
+  event_quiet : (b : BookState) (points : List PointRow) (number place : ℕ) (answer : Result (Company × ℕ) Refusal) → decided b number place e ≡ answer → Quiet b (book_after_event b place answer) points points
   event_quiet b points number place (Ok d) granted =
       let g = event_granted b.opened number place e d granted in
       let account = account_put b.opened place g.c d.0 points g.stood in
@@ -84,7 +84,7 @@ registering_account (Some o) points place figures terms granted =
     let stays = sum_stays o.register.companies place (new_company terms) (none_there (company_at o.register.companies place) free.0) (nothing_paid terms) in
     omega (arith, ints, stays)
 
-registering_quiet : (b : BookState) (points : List PointRow) (place : ℕ) (figures : TermsFigures) (answer : Result Terms Refusal) → registered b place figures ≡ answer → Quiet b (registered_by b place answer) points points
+registering_quiet : (b : BookState) (points : List PointRow) (place : ℕ) (figures : TermsFigures) (answer : Result Terms Refusal) → register_answer b place figures ≡ answer → Quiet b (book_with_terms b place answer) points points
 registering_quiet b points place figures (Ok terms) granted =
     record { entries = refl; account = registering_account b.opened points place figures terms granted }
 registering_quiet b points place figures (Err refused) answered = record { entries = refl; account = ap (λ (o : Option Opened). account_in o points) (unaltered b.opened) }
@@ -140,14 +140,14 @@ enrolling_quiet b localities points point e (Err refused) answered = record { en
 pub quiet_laws : QuietLaws
 quiet_laws =
     record {
-      registering = λ filings s place figures. registering_quiet s.book s.points place figures (registered s.book place figures) refl;
+      registering = λ filings s place figures. registering_quiet s.book s.points place figures (register_answer s.book place figures) refl;
       filing = λ filings s locality i. record { entries = refl; account = refl };
       enrolling = λ filings s point e. enrolling_quiet s.book s.localities s.points point e (enrolling s.book s.localities s.points point e) refl;
-      drawing = λ filings s place. event_quiet Draw (λ paid k. refl) s.book s.points (number_of s.book.opened) place (drawing s.book place) refl;
-      cancelling = λ filings s o. event_quiet (Cancel o.instalment) (λ paid k. refl) s.book s.points o.book o.company (cancelling s.book o) refl;
-      sending = λ filings s o. event_quiet (Send o.instalment) (λ paid k. refl) s.book s.points o.book o.company (sending s.book o) refl;
-      bouncing = λ filings s o. event_quiet (Bounce o.instalment) (λ paid k. refl) s.book s.points o.book o.company (bouncing s.book o) refl;
-      reopening = λ filings s place. event_quiet Reopen (λ paid k. refl) s.book s.points (number_of s.book.opened) place (reopening s.book place) refl;
+      drawing = λ filings s place. event_quiet Draw (λ paid k. refl) s.book s.points (number_of s.book.opened) place (draw_decision s.book place) refl;
+      cancelling = λ filings s o. event_quiet (Cancel o.instalment) (λ paid k. refl) s.book s.points o.book o.company (cancel_decision s.book o) refl;
+      sending = λ filings s o. event_quiet (Send o.instalment) (λ paid k. refl) s.book s.points o.book o.company (send_decision s.book o) refl;
+      bouncing = λ filings s o. event_quiet (Bounce o.instalment) (λ paid k. refl) s.book s.points o.book o.company (bounce_decision s.book o) refl;
+      reopening = λ filings s place. event_quiet Reopen (λ paid k. refl) s.book s.points (number_of s.book.opened) place (reopen_decision s.book place) refl;
       asking = λ filings s q. record { entries = refl; account = refl };
       asked = λ filings s q. refl;
     }

@@ -12,18 +12,22 @@ use Rattle.units.specs.Steps.{next}
 use Rattle.book.specs.declared.answer.Granted.{Granted}
 use Rattle.book.specs.declared.answer.Granted.TheVariants as granted
 use Rattle.book.specs.States.{BookState}
-use Rattle.book.specs.Tables.{written, billed_row}
+use Rattle.tables.specs.PointRows.{billed_row}
+use Rattle.book.specs.Tables.{written}
 use Rattle.orders.specs.Payments.{amount_paid}
-use Rattle.book.specs.Companies.{registered, registered_by, number_of, drawing, cancelling, sending, confirming, bouncing, moved, confirmed_by}
-use Rattle.book.specs.Rows.{filing, enrolling, billing, bill_of, billed_by}
+use Rattle.book.specs.Companies.{number_of, register_answer, draw_decision, cancel_decision, send_decision, confirm_decision, bounce_decision, after_register, after_draw, after_cancel, after_send, after_confirm, after_bounce}
+use Rattle.book.specs.Rows.{filing, enrolling, bill_answer, after_bill}
 use Rattle.book.specs.Questions as asked
-use Rattle.book.specs.Closings.{closing, balance_of, closed_by, reopening}
+use Rattle.book.specs.Closings.{close_answer, reopen_decision, after_close, after_reopen}
 
 -- a book and the two tables that are lent to it
 pub record State : Type 0 where
   pub book : BookState
   pub localities : List LocalityRow
   pub points : List PointRow
+
+abbrev pub with_tables : BookState → List LocalityRow → List PointRow → State
+with_tables b localities points = record { book = b; localities = localities; points = points }
 
 -- what a granted answer is called
 abbrev pub grants : {X : Type 0} → Result X Refusal → (X → Granted) → Result Granted Refusal
@@ -47,35 +51,33 @@ answer_asked s question.Account = grants (asked.account s.book s.points) granted
 
 -- what a call is answered
 abbrev pub answer_to : List LocalityRow → State → Call → Result Granted Refusal
-answer_to filings s (call.Register company terms) = grants (registered s.book company terms) (λ t. granted.Registered)
+answer_to filings s (call.Register company terms) = grants (register_answer s.book company terms) (λ t. granted.Registered)
 answer_to filings s (call.File locality i) = grants (filing s.book s.localities locality (filed_row filings i)) (λ l. granted.Filed)
 answer_to filings s (call.Enrol point e) = grants (enrolling s.book s.localities s.points point e) (λ p. granted.Enrolled)
-answer_to filings s (call.Bill point change) =
-    grants (bill_of (billing s.book s.localities s.points point change.volume change.days)) granted.Billed
+answer_to filings s (call.Bill point change) = grants (bill_answer s.book s.localities s.points point change) granted.Billed
 answer_to filings s (call.Draw company) =
-    grants (drawing s.book company) (λ d. drawn_answer (number_of s.book.opened) company d.1)
-answer_to filings s (call.Cancel o) = grants (cancelling s.book o) (λ d. granted.Cancelled)
-answer_to filings s (call.Send o) = grants (sending s.book o) (λ d. granted.Sent)
-answer_to filings s (call.Confirm o) = grants (confirming s.book o) (λ d. granted.Paid (amount_paid d))
-answer_to filings s (call.Bounce o) = grants (bouncing s.book o) (λ d. granted.Bounced)
-answer_to filings s (call.Close company) = grants (balance_of (closing s.book s.localities s.points company)) granted.Closed
-answer_to filings s (call.Reopen company) = grants (reopening s.book company) (λ d. granted.Reopened)
+    grants (draw_decision s.book company) (λ d. drawn_answer (number_of s.book.opened) company d.1)
+answer_to filings s (call.Cancel o) = grants (cancel_decision s.book o) (λ d. granted.Cancelled)
+answer_to filings s (call.Send o) = grants (send_decision s.book o) (λ d. granted.Sent)
+answer_to filings s (call.Confirm o) = grants (confirm_decision s.book o) (λ d. granted.Paid (amount_paid d))
+answer_to filings s (call.Bounce o) = grants (bounce_decision s.book o) (λ d. granted.Bounced)
+answer_to filings s (call.Close company) = grants (close_answer s.book s.localities s.points company) granted.Closed
+answer_to filings s (call.Reopen company) = grants (reopen_decision s.book company) (λ d. granted.Reopened)
 answer_to filings s (call.Ask q) = answer_asked s q
 
 -- the book after a call
 abbrev pub book_after : State → Call → BookState
-book_after s (call.Register company terms) = registered_by s.book company (registered s.book company terms)
+book_after s (call.Register company terms) = after_register s.book company terms
 book_after s (call.File locality i) = s.book
 book_after s (call.Enrol point e) = s.book
-book_after s (call.Bill point change) =
-    billed_by s.book point change.volume change.days (billing s.book s.localities s.points point change.volume change.days)
-book_after s (call.Draw company) = moved s.book company (drawing s.book company)
-book_after s (call.Cancel o) = moved s.book o.company (cancelling s.book o)
-book_after s (call.Send o) = moved s.book o.company (sending s.book o)
-book_after s (call.Confirm o) = confirmed_by s.book o.company (confirming s.book o)
-book_after s (call.Bounce o) = moved s.book o.company (bouncing s.book o)
-book_after s (call.Close company) = closed_by s.book company (closing s.book s.localities s.points company)
-book_after s (call.Reopen company) = moved s.book company (reopening s.book company)
+book_after s (call.Bill point change) = after_bill s.book s.localities s.points point change
+book_after s (call.Draw company) = after_draw s.book company
+book_after s (call.Cancel o) = after_cancel s.book o
+book_after s (call.Send o) = after_send s.book o
+book_after s (call.Confirm o) = after_confirm s.book o
+book_after s (call.Bounce o) = after_bounce s.book o
+book_after s (call.Close company) = after_close s.book s.localities s.points company
+book_after s (call.Reopen company) = after_reopen s.book company
 book_after s (call.Ask q) = s.book
 
 -- the locality table after a call: filing alone writes it
@@ -87,7 +89,7 @@ localities_after filings s other = s.localities
 abbrev pub points_after : State → Call → List PointRow
 points_after s (call.Enrol point e) = written (λ p. p) s.points point (enrolling s.book s.localities s.points point e)
 points_after s (call.Bill point change) =
-    written (billed_row (slice_index_or s.points point no_point)) s.points point (bill_of (billing s.book s.localities s.points point change.volume change.days))
+    written (billed_row (slice_index_or s.points point no_point)) s.points point (bill_answer s.book s.localities s.points point change)
 points_after s other = s.points
 
 -- all that stands after a call

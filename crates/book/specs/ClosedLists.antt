@@ -4,7 +4,7 @@ use Rattle.units.specs.declared.refusal.Reason.TheVariants.{BookNotOpen}
 use Rattle.units.specs.declared.refusal.Refusal.{Refusal}
 use Rattle.units.specs.Refusals.{refusal}
 use Rattle.orders.specs.ClosedLists as register
-use Rattle.book.specs.declared.opened.Opened.{Opened}
+use Rattle.opened.specs.declared.record.Opened.{Opened}
 use Rattle.book.specs.States.{BookState}
 
 -- 2 while the book is not open, which writes nothing; then what its register lists

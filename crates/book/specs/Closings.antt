@@ -15,8 +15,8 @@ use Rattle.tables.specs.Lengths.{tables_fit}
 use Rattle.units.specs.Steps.{when, next}
 use Rattle.orders.specs.Orders.{settled}
 use Rattle.book.specs.States.{BookState, when_open, in_room, noted, with_company}
-use Rattle.book.specs.Companies.{number_of, decided}
-use Rattle.book.specs.Questions.{settlement, due, price_for}
+use Rattle.book.specs.Companies.{number_of, decided, book_after_event}
+use Rattle.opened.specs.Figures.{settlement, due, price_for}
 
 -- the company after its closing, and the balance due
 abbrev pub settling : TariffFigures → (price : ℕ) → List LocalityRow → List PointRow → (company : ℕ) → Company → Company × Cents
@@ -25,20 +25,19 @@ settling t price localities points company c =
 
 -- closing a company: 4 for a table too long and past the sixteen, 5 where none is registered, 9 where it is closed, 11 while an order is out;
 -- it books the balance due, so that it needs room
-abbrev pub closing : BookState → List LocalityRow → List PointRow → (company : ℕ) → Result (Company × Cents) Refusal
-closing b localities points company =
+abbrev pub close_decision : BookState → List LocalityRow → List PointRow → (company : ℕ) → Result (Company × Cents) Refusal
+close_decision b localities points company =
     in_room b (when_open b.opened (λ o.
     when (tables_fit localities points) PastTable 0
     (next (deciding o.register.companies o.register.number o.register.number company Close) (λ d.
     Ok (settling o.tariff.figures (price_for b.price d.0) localities points company d.0)))))
 
--- what closing answers: the balance
+-- closing answers the balance
 abbrev pub balance_of : Result (Company × Cents) Refusal → Result Cents Refusal
 balance_of answer = next answer (λ d. Ok d.1)
 
--- nothing is answered but that it was done
-abbrev pub done : {X : Type 0} → Result X Refusal → Result (Unit {0}) Refusal
-done answer = next answer (λ d. Ok tt)
+abbrev pub close_answer : BookState → List LocalityRow → List PointRow → (company : ℕ) → Result Cents Refusal
+close_answer b localities points company = balance_of (close_decision b localities points company)
 
 abbrev pub balance_entry : (company : ℕ) → Cents → Entry
 balance_entry company amount =
@@ -48,6 +47,15 @@ abbrev pub closed_by : BookState → (company : ℕ) → Result (Company × Cent
 closed_by b company (Ok d) = with_company (noted b (balance_entry company d.1)) company d.0
 closed_by b company (Err refused) = b
 
+abbrev pub after_close : BookState → List LocalityRow → List PointRow → (company : ℕ) → BookState
+after_close b localities points company = closed_by b company (close_decision b localities points company)
+
 -- reopening a company: 4, 5, and 10 where it is open
-abbrev pub reopening : BookState → (company : ℕ) → Result (Company × ℕ) Refusal
-reopening b company = decided b (number_of b.opened) company Reopen
+abbrev pub reopen_decision : BookState → (company : ℕ) → Result (Company × ℕ) Refusal
+reopen_decision b company = decided b (number_of b.opened) company Reopen
+
+abbrev pub reopen_answer : BookState → (company : ℕ) → Result (Unit {0}) Refusal
+reopen_answer b company = next (reopen_decision b company) (λ d. Ok tt)
+
+abbrev pub after_reopen : BookState → (company : ℕ) → BookState
+after_reopen b company = book_after_event b company (reopen_decision b company)

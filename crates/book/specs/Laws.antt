@@ -7,7 +7,7 @@ use Rattle.tariff.specs.declared.figures.TariffFigures.{TariffFigures}
 use Rattle.tables.specs.declared.rows.LocalityRow.{LocalityRow}
 use Rattle.tables.specs.declared.rows.PointRow.{PointRow}
 use Rattle.tables.specs.Blank.{no_point}
-use Rattle.revenue.specs.Owners.{seat}
+use Rattle.revenue.specs.Owners.{point_locality}
 use Rattle.revenue.specs.Billed.{point_tariff}
 use Rattle.revenue.specs.Ug1.{point_ug1}
 use Rattle.revenue.specs.Gs.{point_gs}
@@ -21,14 +21,16 @@ use Rattle.orders.specs.declared.order.Order.{Order}
 use Rattle.calls.specs.declared.call.Question.{Question}
 use Rattle.calls.specs.declared.enrolling.Enrolment.{Enrolment}
 use Rattle.orders.specs.Registers.{company_at}
-use Rattle.book.specs.declared.opened.Opened.{Opened}
+use Rattle.opened.specs.declared.record.Opened.{Opened}
 use Rattle.book.specs.States.{BookState}
 use Rattle.orders.specs.Payments.{amount_paid}
-use Rattle.book.specs.Companies.{confirming, confirmed_by}
-use Rattle.book.specs.Closings.{closing, closed_by}
-use Rattle.book.specs.Questions.{account_of, balance_due}
+use Rattle.book.specs.Companies.{confirm_decision, confirmed_by}
+use Rattle.book.specs.Closings.{close_decision, closed_by}
+use Rattle.opened.specs.Figures.{account_of}
+use Rattle.book.specs.Questions.{balance_due}
 use Rattle.book.specs.Rows.{billing, bill_of, billed_by}
-use Rattle.book.specs.Tables.{written, billed_row}
+use Rattle.tables.specs.PointRows.{billed_row}
+use Rattle.book.specs.Tables.{written}
 use Rattle.book.specs.JournalSums.{journal_volume, journal_days, advances_of, payments}
 use Rattle.book.specs.Calls.{State, after_call}
 
@@ -73,7 +75,7 @@ pub record Confirmed (before after : BookState) (place : ℕ) (d : Company × �
   pub account : (c : Company) → company_in before.opened place ≡ Some c → d.1 ≡ c.paid + 1 → AccountLoses before after (amount_paid d).0
 
 abbrev pub ConfirmLaw : Type 0
-ConfirmLaw = (b : BookState) (o : Order) (d : Company × ℕ) → confirming b o ≡ Ok d → Confirmed b (confirmed_by b o.company (Ok d)) o.company d
+ConfirmLaw = (b : BookState) (o : Order) (d : Company × ℕ) → confirm_decision b o ≡ Ok d → Confirmed b (confirmed_by b o.company (Ok d)) o.company d
 
 -- ---- The calls that pay and charge nothing
 
@@ -128,7 +130,7 @@ pub record Billed (o : Opened) (localities : List LocalityRow) (before after : B
   pub entry : Entry
   pub entries : after.entries ≡ before.entries ++ entry ∷ []
   -- this is the point's bill, in the locality in which the point is enrolled
-  pub booked : BillEntry o.tariff.figures (seat localities (row_of old point)) (row_of old point) (row_of new point) point dv dd entry
+  pub booked : BillEntry o.tariff.figures (point_locality localities (row_of old point)) (row_of old point) (row_of new point) point dv dd entry
   -- and its amounts are those that the bill answers
   pub amount : entry.amount ≡ c.bill.charge.tariff
   pub ug1 : entry.ug1 ≡ c.bill.charge.ug1
@@ -186,7 +188,7 @@ pub record CompanyClosed (was is : Company) (due : Cents) : Type 0 where
 -- What closing the company at a place leaves, where o was on record, and with these tables that balance was due.
 pub record YearClosed (localities : List LocalityRow) (points : List PointRow) (o : Opened) (before after : BookState) (place : ℕ) (due : Cents) : Type 0 where
   -- it is the balance that was told as due just before
-  pub told : balance_due before localities points place ≡ Ok due
+  pub was_due : balance_due before localities points place ≡ Ok due
   -- the journal has one entry more, at its end: the company's balance
   pub entry : Entry
   pub entries : after.entries ≡ before.entries ++ entry ∷ []
@@ -217,5 +219,5 @@ pub record YearClosed (localities : List LocalityRow) (points : List PointRow) (
 abbrev pub CloseLaw : Type 0
 CloseLaw =
     (b : BookState) (o : Opened) (localities : List LocalityRow) (points : List PointRow) (company : ℕ) (d : Company × Cents) →
-    b.opened ≡ Some o → closing b localities points company ≡ Ok d →
+    b.opened ≡ Some o → close_decision b localities points company ≡ Ok d →
     YearClosed localities points o b (closed_by b company (Ok d)) company d.1

@@ -6,6 +6,7 @@ use Rattle.journal.specs.declared.entry.Kind.TheVariants.{Bill as BillKind}
 use Rattle.tables.specs.declared.rows.LocalityRow.{LocalityRow}
 use Rattle.tables.specs.declared.rows.PointRow.{PointRow}
 use Rattle.tariff.specs.declared.bill.Bill.{Bill}
+use Rattle.tariff.specs.declared.supply.Change.{Change}
 use Rattle.calls.specs.declared.billing.Charged.{Charged}
 use Rattle.calls.specs.declared.enrolling.Enrolment.{Enrolment}
 use Rattle.calls.specs.Decisions as decision
@@ -28,6 +29,9 @@ billing b localities points point volume days =
 abbrev pub bill_of : Result Charged Refusal → Result Bill Refusal
 bill_of answer = next answer (λ c. Ok c.bill)
 
+abbrev pub bill_answer : BookState → List LocalityRow → List PointRow → (point : ℕ) → Change → Result Bill Refusal
+bill_answer b localities points point change = bill_of (billing b localities points point change.volume change.days)
+
 -- its entry: the changes, lines 1 to 4 charged, and what lines 6 and 5 gained
 abbrev pub bill_entry : Charged → (point : ℕ) → (volume days : ℤ) → Entry
 bill_entry c point volume days =
@@ -37,3 +41,7 @@ bill_entry c point volume days =
 abbrev pub billed_by : BookState → (point : ℕ) → (volume days : ℤ) → Result Charged Refusal → BookState
 billed_by b point volume days (Ok c) = noted b (bill_entry c point volume days)
 billed_by b point volume days (Err refused) = b
+
+abbrev pub after_bill : BookState → List LocalityRow → List PointRow → (point : ℕ) → Change → BookState
+after_bill b localities points point change =
+    billed_by b point change.volume change.days (billing b localities points point change.volume change.days)

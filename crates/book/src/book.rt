@@ -1,9 +1,9 @@
 // A year's book over a journal and a management rule. Its callers lend it the two tables, call by call.
 ghost use Rattle.std.specs.Prelude.{◌≡◌, None};
 
-use crate::opened::Opened;
-use journal::kept::Journal;
+use journal::journal::Journal;
 use management::rule::Management;
+use opened::record::Opened;
 
 mod closed;
 mod closing;

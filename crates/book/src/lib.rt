@@ -3,7 +3,7 @@
 
 pub mod answer;
 pub mod book;
-mod company_costs;
 pub mod laws;
-mod opened;
-mod settlement;
+mod on_record;
+#[cfg(test)]
+mod tests;

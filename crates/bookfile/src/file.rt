@@ -116,7 +116,9 @@ fn list_line(
     calls: &mut Vec<NumberedCall>,
 ) -> Result<(), Unread>
     ensures filings { OnOk result (filings.new.items ≡ filings.old.items ++ line_filings said.now) }
-    ensures calls { OnOk result (calls.new.items ≡ calls.old.items ++ line_calls (length filings.old.items) (record { number = line; line = said.now })) }
+    ensures calls { OnOk result
+        (calls.new.items
+        ≡ calls.old.items ++ line_calls (length filings.old.items) (record { number = line; line = said.now })) }
     ensures memory { IfErr result (λ e. e ≡ Memory) }
 {
     let call = call_of(said, filings.len());

@@ -44,7 +44,8 @@ pub(crate) fn put_all(slots: &mut [Option<i128>], line: &Line, span: Span) -> Re
     requires room { span.slot + span.count ≤ length slots.old }
     requires figures { span.first + span.count ≤ MOST_FIGURES }
     ensures puts { Puts (placed_all slots.old span.slot line.now.figures span.first span.count) result slots.new }
-    ensures err { IfErr result (SlotTaken line.now.statement line.now.figures slots.old span.slot span.first span.count) }
+    ensures err { IfErr result
+        (SlotTaken line.now.statement line.now.figures slots.old span.slot span.first span.count) }
 {
     // By number: `(span.first..).zip(&mut slots[span.slot..span.slot + span.count])` is no plainer.
     for k in 0..span.count {

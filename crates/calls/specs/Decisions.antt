@@ -1,5 +1,5 @@
 -- What the calls on lent tables meet: what each is granted, or the first refusal that applies.
-use Rattle.std.specs.Prelude.{ℕ, Bool, not, ◌&&◌, List, length, ℤ, is_some, Ok, Result, ◌==◌, nat_le, nat_lt}
+use Rattle.std.specs.Prelude.{ℕ, not, List, length, ℤ, is_some, Ok, Result, ◌==◌, nat_le, nat_lt}
 use Rattle.units.specs.declared.refusal.Reason.TheVariants.{PastTable, PlaceTaken, FigureLimit}
 use Rattle.units.specs.declared.refusal.Refusal.{Refusal}
 use Rattle.units.specs.Refusals.{refused_at}
@@ -50,8 +50,8 @@ enrolling companies localities points point locality class domestic =
 
 -- the point at a place with its locality, to bill it: 4 for a table too long, then for the place, 5 for the point, its locality and the company
 -- in turn, 9 for a closed company
-abbrev pub seated : Companies → List LocalityRow → List PointRow → (point : ℕ) → Result (PointRow × LocalityRow) Refusal
-seated companies localities points point =
+abbrev pub point_to_bill : Companies → List LocalityRow → List PointRow → (point : ℕ) → Result (PointRow × LocalityRow) Refusal
+point_to_bill companies localities points point =
     when (tables_fit localities points) PastTable 0
     (when (nat_lt point (length points)) PastTable point
     (found (point_at points point) point (λ p.
@@ -68,7 +68,7 @@ charged t p l point dv dd =
 -- billing a point
 abbrev pub billing : TariffFigures → Companies → List LocalityRow → List PointRow → (point : ℕ) → (dv dd : ℤ) → Result Charged Refusal
 billing t companies localities points point dv dd =
-    next (seated companies localities points point) (λ seat. charged t seat.0 seat.1 point dv dd)
+    next (point_to_bill companies localities points point) (λ found. charged t found.0 found.1 point dv dd)
 
 -- the locality at a place, for a question: 4 for a table too long, then for the place, 5 where none stands
 abbrev pub asked_locality : List LocalityRow → (place : ℕ) → Result LocalityRow Refusal

@@ -9,6 +9,7 @@ use orders::register::after_event;
 use tables::lengths::tables_fit;
 use tables::lookup::record_at;
 use tables::rows::PointRow;
+use tariff::supply::CLASSES;
 use units::refusal::{Reason, Refusal};
 
 /// The locality's place, the class and the domestic sign with which a point is enrolled: plain numbers, since the call refuses those beyond their limits.
@@ -23,7 +24,9 @@ impl<'a> Records<'a> {
     /// The row of a point that is enrolled in a locality, or the first refusal.
     pub fn enrolling(self, point: u64, enrolment: Enrolment) -> Result<PointRow, Refusal>
         ensures within { OnOk result (point < length self.entry.points.now) }
-        ensures answer { result ≡ enrolling self.entry.register.now.companies self.entry.localities.now self.entry.points.now point enrolment.locality enrolment.class enrolment.domestic }
+        ensures answer { result
+            ≡ enrolling self.entry.register.now.companies self.entry.localities.now self.entry.points.now point
+            enrolment.locality enrolment.class enrolment.domestic }
     {
         if !tables_fit(self.localities, self.points) {
             return Err(Reason::PastTable.at(0));
@@ -31,11 +34,11 @@ impl<'a> Records<'a> {
         if point >= self.points.len() as u64 {
             return Err(Reason::PastTable.at(point));
         }
-        let seat = enrolment.locality;
-        if seat >= self.localities.len() as u64 {
-            return Err(Reason::PastTable.at(seat));
+        let place = enrolment.locality;
+        if place >= self.localities.len() as u64 {
+            return Err(Reason::PastTable.at(place));
         }
-        let locality = record_at(self.localities, seat).ok_or(Reason::NothingThere.at(seat))?;
+        let locality = record_at(self.localities, place).ok_or(Reason::NothingThere.at(place))?;
         let owner = locality.row().company;
         let company = self
             .register
@@ -55,7 +58,7 @@ impl Enrolment {
     fn row(self) -> Result<PointRow, Refusal>
         ensures { result ≡ enrolled_within self.locality self.class self.domestic }
     {
-        if !among(3, self.class) {
+        if !among(CLASSES, self.class) {
             return Err(Reason::FigureLimit.at(1));
         }
         if self.domestic > 1 {

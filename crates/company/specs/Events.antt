@@ -98,12 +98,12 @@ paid_after paid Close k = paid
 paid_after paid Reopen k = paid
 
 -- the record after an event that was answered so: a refused one moves nothing
-abbrev pub moved : Company → Event → Result ℕ Reason → Company
-moved c e (Ok k) = record { terms = c.terms; paid = paid_after c.paid e k; phase = phase_after c.phase e k; balances = c.balances }
-moved c e (Err refused) = c
+abbrev pub company_after : Company → Event → Result ℕ Reason → Company
+company_after c e (Ok k) = record { terms = c.terms; paid = paid_after c.paid e k; phase = phase_after c.phase e k; balances = c.balances }
+company_after c e (Err refused) = c
 
 abbrev pub act_after : Company → Event → Company
-act_after c e = moved c e (act_answer c e)
+act_after c e = company_after c e (act_answer c e)
 
 -- a company's advances: the instalments that are paid
 abbrev pub advances : Company → ℤ

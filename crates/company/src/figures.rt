@@ -1,10 +1,10 @@
 // The figures that a company registers: plain numbers, not yet held to their limits.
 ghost use Rattle.std.specs.Prelude.{◌≡◌};
 
-use limits::{among, first_of, unless};
-
-// Of a yearly advance, on either side of 0, and of a yearly cost.
-const MOST_CENTS: u64 = 1_000_000_000_000;
+use limits::{
+    AWARD_YEARS, DENSITIES, MOST_CLASS_POINTS, MOST_INSTALMENTS, MOST_YEARLY_CENTS, among,
+    first_of, unless,
+};
 
 #[derive(Clone, Copy, Debug, PartialEq, Eq)]
 pub struct TermsFigures {
@@ -40,10 +40,10 @@ impl TermsFigures {
         ensures { result ≡ first_of (payment_tests self.now) }
     {
         first_of(&[
-            unless(self.advance.unsigned_abs() <= MOST_CENTS, 1),
-            unless(among(12, u64::from(self.instalments)), 2),
-            unless(self.verification <= MOST_CENTS, 3),
-            unless(self.central <= MOST_CENTS, 4),
+            unless(self.advance.unsigned_abs() <= MOST_YEARLY_CENTS, 1),
+            unless(among(MOST_INSTALMENTS, u64::from(self.instalments)), 2),
+            unless(self.verification <= MOST_YEARLY_CENTS, 3),
+            unless(self.central <= MOST_YEARLY_CENTS, 4),
         ])
     }
 
@@ -52,9 +52,9 @@ impl TermsFigures {
         ensures { result ≡ first_of (trait_tests self.now) }
     {
         first_of(&[
-            unless(self.points <= 100_000_000, 5),
-            unless(among(3, u64::from(self.density)), 6),
-            unless(among(12, u64::from(self.year)), 7),
+            unless(self.points <= MOST_CLASS_POINTS, 5),
+            unless(among(DENSITIES, u64::from(self.density)), 6),
+            unless(among(AWARD_YEARS, u64::from(self.year)), 7),
         ])
     }
 }

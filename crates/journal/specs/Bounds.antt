@@ -2,8 +2,8 @@
 use Rattle.std.specs.Prelude.{ℕ, ◌≤◌, min, List, length, take}
 use Rattle.std.proofs.Common.{arith, length-take}
 
-pub taken_bounded : {A : Type 0} (n room : ℕ) (xs : List A) → n ≤ room → length (take n xs) ≤ room
-taken_bounded n room xs h = omega (arith, length-take n xs)
+pub taken_bounded : {A : Type 0} (n capacity : ℕ) (xs : List A) → n ≤ capacity → length (take n xs) ≤ capacity
+taken_bounded n capacity xs h = omega (arith, length-take n xs)
 
-pub room_small : (n : ℕ) → min n 1048576 ≤ 1048576
-room_small n = omega arith
+pub capacity_small : (n : ℕ) → min n 1048576 ≤ 1048576
+capacity_small n = omega arith

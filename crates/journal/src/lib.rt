@@ -2,6 +2,6 @@
 #![tactic(auto)]
 
 pub mod entry;
-pub mod kept;
-pub mod lent;
-pub mod own;
+pub mod journal;
+pub mod lent_journal;
+pub mod own_journal;

@@ -9,6 +9,24 @@ ghost use Rattle.limits.specs.First.{point_price_fits, volume_price_fits, among,
 use units::amounts::{PointPrice, VolumePrice};
 use units::refusal::{Reason, Refusal};
 
+/// The places for companies in a book, which are numbered from 0.
+pub const MOST_COMPANIES: usize = 16;
+
+/// The most cents of a yearly advance, on either side of 0, and of a yearly cost of a company.
+pub const MOST_YEARLY_CENTS: u64 = 1_000_000_000_000;
+
+/// The most points for class of a company.
+pub const MOST_CLASS_POINTS: u64 = 100_000_000;
+
+/// The densities are numbered from 1 to this.
+pub const DENSITIES: u64 = 3;
+
+/// The award years are numbered from 1 to this.
+pub const AWARD_YEARS: u64 = 12;
+
+/// The most instalments of a yearly advance.
+pub const MOST_INSTALMENTS: u64 = 12;
+
 /// A figure that has a limit by its kind.
 pub trait Limited {
     ghost fits: { Self → Bool };

@@ -2,7 +2,7 @@
 ghost use Rattle.std.specs.Prelude.{◌≡◌, ◌≤◌, is_some, IfSome};
 ghost use Rattle.management.specs.Traits.{within_limits};
 
-use limits::among;
+use limits::{AWARD_YEARS, DENSITIES, MOST_CLASS_POINTS, among};
 
 /// Points for class, density and award year, each within its limits. The rules number the densities, and the nine prices are listed by these numbers.
 #[derive(Clone, Copy, Debug, PartialEq, Eq)]
@@ -23,7 +23,7 @@ impl Traits {
         ensures test { is_some result ≡ within_limits points density year }
         ensures figures { IfSome result (λ t. (t.points ≡ points) × (t.density ≡ density) × (t.year ≡ year)) }
     {
-        if points <= 100_000_000 && among(3, density) && among(12, year) {
+        if points <= MOST_CLASS_POINTS && among(DENSITIES, density) && among(AWARD_YEARS, year) {
             Some(Traits {
                 points,
                 density,

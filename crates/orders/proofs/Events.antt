@@ -4,7 +4,7 @@ use Rattle.units.specs.Refusals.{refused_at}
 use Rattle.units.proofs.Granted.{when_granted, found_granted, next_granted, at_granted, within}
 use Rattle.company.specs.declared.record.Company.{Company}
 use Rattle.company.specs.declared.record.Event.{Event}
-use Rattle.company.specs.Events.{act_answer, act_after, moved}
+use Rattle.company.specs.Events.{act_answer, act_after, company_after}
 use Rattle.orders.specs.declared.register.Register.{Register}
 use Rattle.orders.specs.Registers.{Companies, company_at, after_event, deciding, with_company}
 
@@ -13,14 +13,14 @@ pub record GrantedEvent (place : Option Company) (e : Event) (d : Company × ℕ
   pub c : Company
   pub stood : place ≡ Some c
   pub answer : act_answer c e ≡ Ok d.1
-  pub after : d.0 ≡ moved c e (Ok d.1)
+  pub after : d.0 ≡ company_after c e (Ok d.1)
 
-answered : (c : Company) (place : ℕ) (e : Event) (d : Company × ℕ) → after_event c place e ≡ Ok d → (act_answer c e ≡ Ok d.1) × (d.0 ≡ moved c e (Ok d.1))
+answered : (c : Company) (place : ℕ) (e : Event) (d : Company × ℕ) → after_event c place e ≡ Ok d → (act_answer c e ≡ Ok d.1) × (d.0 ≡ company_after c e (Ok d.1))
 answered c place e d granted =
     let n = next_granted (refused_at place (act_answer c e)) (λ k. Ok (act_after c e, k)) d granted in
     let d_is : (act_after c e, n.0) ≡ d = cc in
     let answer : act_answer c e ≡ Ok d.1 = at_granted place (act_answer c e) n.0 n.1 ∙ ap (λ (x : Company × ℕ). Ok x.1) d_is in
-    (answer, ap (λ (x : Company × ℕ). x.0) (sym d_is) ∙ ap (moved c e) answer)
+    (answer, ap (λ (x : Company × ℕ). x.0) (sym d_is) ∙ ap (company_after c e) answer)
 
 pub event_granted : (companies : Companies) (own number place : ℕ) (e : Event) (d : Company × ℕ) → deciding companies own number place e ≡ Ok d → GrantedEvent (company_at companies place) e d
 event_granted companies own number place e d granted =

@@ -8,11 +8,11 @@ use Rattle.company.specs.declared.record.Event.{Event}
 use Rattle.company.specs.declared.record.Event.TheVariants.{File, Enrol, Bill, Draw, Cancel, Send, Confirm, Bounce}
 use Rattle.company.specs.declared.record.Phase.{Phase}
 use Rattle.company.specs.declared.record.Phase.TheVariants.{Free, Drawn, Sent, Closed}
-use Rattle.company.specs.Events.{draw_answer, drawn_for, sent_for, order_answer, act_answer, act_after, moved, phase_after}
+use Rattle.company.specs.Events.{draw_answer, drawn_for, sent_for, order_answer, act_answer, act_after, company_after, phase_after}
 use Rattle.orders.specs.Laws.{outs, OrderLaws}
 
 after : (c : Company) (e : Event) (k : ℕ) → act_answer c e ≡ Ok k → (act_after c e).phase ≡ phase_after c.phase e k
-after c e k granted = ap (λ (r : Result ℕ Reason). (moved c e r).phase) granted
+after c e k granted = ap (λ (r : Result ℕ Reason). (company_after c e r).phase) granted
 
 outs_after : (c : Company) (e : Event) (k : ℕ) → act_answer c e ≡ Ok k → outs (act_after c e).phase ≡ outs (phase_after c.phase e k)
 outs_after c e k granted = ap outs (after c e k granted)

@@ -10,11 +10,11 @@ use Rattle.orders.specs.Payments.{amount_paid}
 use Rattle.orders.specs.Laws.{PaidLaw}
 use Rattle.orders.proofs.Events.{event_granted, company_put, others_put}
 use Rattle.orders.proofs.OrderLaws.{order_laws}
-use Rattle.company.specs.Events.{moved, advances}
+use Rattle.company.specs.Events.{company_after, advances}
 use Rattle.company.specs.Instalments.{paid_up_to, instalment}
 
 -- a company's advances after an instalment was paid, where it is the one after those that were
-pub gains : (was is : Company) (j k : ℕ) → is ≡ moved was (Confirm j) (Ok k) → k ≡ was.paid + 1 → advances is ≡ advances was +ℤ (amount_paid (is, k)).0
+pub gains : (was is : Company) (j k : ℕ) → is ≡ company_after was (Confirm j) (Ok k) → k ≡ was.paid + 1 → advances is ≡ advances was +ℤ (amount_paid (is, k)).0
 gains was is j k after next =
     let new = ap advances after in
     let amount = ap (λ (c : Company). instalment c.terms.figures.advance c.terms.figures.instalments k) after in
@@ -23,8 +23,8 @@ gains was is j k after next =
     omega (arith, ints)
 
 pub paid_law : PaidLaw
-paid_law r room es o d granted =
-    let g = event_granted r.companies r.number o.book o.company (Confirm o.instalment) d (both_granted (order_decision r Confirm o) (append_answer room es) d granted) in
+paid_law r capacity es o d granted =
+    let g = event_granted r.companies r.number o.book o.company (Confirm o.instalment) d (both_granted (order_decision r Confirm o) (append_answer capacity es) d granted) in
     record {
       entries = refl;
       was = g.c;

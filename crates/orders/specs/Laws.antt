@@ -77,5 +77,5 @@ pub record OrderPaid (before after : Register) (old new : List Entry) (place : �
 
 abbrev pub PaidLaw : Type 0
 PaidLaw =
-    (r : Register) (room : ℕ) (es : List Entry) (o : Order) (d : Company × ℕ) → confirm_decision r room es o ≡ Ok d →
+    (r : Register) (capacity : ℕ) (es : List Entry) (o : Order) (d : Company × ℕ) → confirm_decision r capacity es o ≡ Ok d →
     OrderPaid r (register_after r o.company (Ok d)) es (entries_paid es o.company (Ok d)) o.company d

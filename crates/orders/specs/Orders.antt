@@ -29,8 +29,8 @@ abbrev pub order_decision : Register → (ℕ → Event) → Order → Result (C
 order_decision r event o = decision r o.book o.company (event o.instalment)
 
 -- confirming books an advance, so that it needs room in the journal: 16 after all else
-abbrev pub confirm_decision : Register → (room : ℕ) → List Entry → Order → Result (Company × ℕ) Refusal
-confirm_decision r room es o = next (order_decision r Confirm o) (λ d. next (append_answer room es) (λ _. Ok d))
+abbrev pub confirm_decision : Register → (capacity : ℕ) → List Entry → Order → Result (Company × ℕ) Refusal
+confirm_decision r capacity es o = next (order_decision r Confirm o) (λ d. next (append_answer capacity es) (λ _. Ok d))
 
 -- a granted event leaves its company moved, and a refused one leaves the register
 abbrev pub register_after : Register → (company : ℕ) → Result (Company × ℕ) Refusal → Register

@@ -2,8 +2,9 @@
 ghost use Rattle.std.specs.Prelude.{◌≤◌, length};
 ghost use Rattle.orders.specs.ClosedLists.{Lists, Listed};
 
-use crate::register::{MOST_COMPANIES, Register};
+use crate::register::Register;
 use company::record::Phase;
+use limits::MOST_COMPANIES;
 use units::refusal::{Reason, Refusal};
 
 impl Register {

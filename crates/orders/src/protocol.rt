@@ -10,13 +10,13 @@ use crate::order::{DrawnOrder, Order, Returned, SentOrder};
 use crate::register::{Register, company_place};
 use company::record::Event;
 use journal::entry::{Entry, Kind};
-use journal::kept::Journal;
+use journal::journal::Journal;
 use units::amounts::Cents;
 use units::refusal::{Reason, Refusal};
 
 impl Register {
-    // Moves the company at a place by an event, where it stands: answers the instalment that the event is about.
-    fn moves(&mut self, number: u64, place: u64, event: Event) -> Result<u8, Refusal>
+    // The company at a place takes an event, where it stands: answers the instalment that the event is about.
+    fn act(&mut self, number: u64, place: u64, event: Event) -> Result<u8, Refusal>
         ensures answer { result ≡ next (decision self.old number place event) (λ d. Ok d.1) }
         ensures after { self.new ≡ register_after self.old place (decision self.old number place event) }
     {
@@ -34,11 +34,12 @@ impl Register {
 
     /// Draws the order for the instalment after those that a company is paid, as plain numbers.
     pub fn draw_numbers(&mut self, company: u64) -> Result<Order, Refusal>
-        ensures answer { result ≡ next (draw_decision self.old company) (λ d. Ok (order_for self.old.number company d)) }
+        ensures answer { result
+            ≡ next (draw_decision self.old company) (λ d. Ok (order_for self.old.number company d)) }
         ensures after { self.new ≡ register_after self.old company (draw_decision self.old company) }
     {
         let book = self.number;
-        let instalment = self.moves(book, company, Event::Draw)?;
+        let instalment = self.act(book, company, Event::Draw)?;
         Ok(Order {
             book,
             company,
@@ -60,14 +61,15 @@ impl Register {
         ensures answer { result ≡ next (order_decision self.old Cancel order) (λ d. Ok tt) }
         ensures after { self.new ≡ register_after self.old order.company (order_decision self.old Cancel order) }
     {
-        self.moves(order.book, order.company, Event::Cancel(order.instalment))?;
+        self.act(order.book, order.company, Event::Cancel(order.instalment))?;
         Ok(())
     }
 
     /// Cancels a drawn order.
     pub fn cancel(&mut self, order: DrawnOrder) -> Result<(), Returned<DrawnOrder>>
         ensures answer { result ≡ spends order (λ d. tt) (order_decision self.old Cancel order.order) }
-        ensures after { self.new ≡ register_after self.old order.order.company (order_decision self.old Cancel order.order) }
+        ensures after { self.new
+            ≡ register_after self.old order.order.company (order_decision self.old Cancel order.order) }
     {
         match self.cancel_numbers(order.order()) {
             Ok(()) => {
@@ -83,14 +85,16 @@ impl Register {
         ensures answer { result ≡ next (order_decision self.old Send order) (λ d. Ok tt) }
         ensures after { self.new ≡ register_after self.old order.company (order_decision self.old Send order) }
     {
-        self.moves(order.book, order.company, Event::Send(order.instalment))?;
+        self.act(order.book, order.company, Event::Send(order.instalment))?;
         Ok(())
     }
 
     /// Sends a drawn order.
     pub fn send(&mut self, order: DrawnOrder) -> Result<SentOrder, Returned<DrawnOrder>>
-        ensures answer { result ≡ spends order (λ d. record { order = order.order }) (order_decision self.old Send order.order) }
-        ensures after { self.new ≡ register_after self.old order.order.company (order_decision self.old Send order.order) }
+        ensures answer { result
+            ≡ spends order (λ d. record { order = order.order }) (order_decision self.old Send order.order) }
+        ensures after { self.new
+            ≡ register_after self.old order.order.company (order_decision self.old Send order.order) }
     {
         match self.send_numbers(order.order()) {
             Ok(()) => {
@@ -106,14 +110,15 @@ impl Register {
         ensures answer { result ≡ next (order_decision self.old Bounce order) (λ d. Ok tt) }
         ensures after { self.new ≡ register_after self.old order.company (order_decision self.old Bounce order) }
     {
-        self.moves(order.book, order.company, Event::Bounce(order.instalment))?;
+        self.act(order.book, order.company, Event::Bounce(order.instalment))?;
         Ok(())
     }
 
     /// Takes a sent order back, unpaid.
     pub fn bounce(&mut self, order: SentOrder) -> Result<(), Returned<SentOrder>>
         ensures answer { result ≡ spends order (λ d. tt) (order_decision self.old Bounce order.order) }
-        ensures after { self.new ≡ register_after self.old order.order.company (order_decision self.old Bounce order.order) }
+        ensures after { self.new
+            ≡ register_after self.old order.order.company (order_decision self.old Bounce order.order) }
     {
         match self.bounce_numbers(order.order()) {
             Ok(()) => {
@@ -130,10 +135,17 @@ impl Register {
         journal: &mut J,
         order: Order,
     ) -> Result<Cents, Refusal>
-        ensures answer { result ≡ next (confirm_decision self.old (J.Journal.room journal.old) (J.Journal.entries journal.old) order) (λ d. Ok (amount_paid d)) }
-        ensures after { self.new ≡ register_after self.old order.company (confirm_decision self.old (J.Journal.room journal.old) (J.Journal.entries journal.old) order) }
-        ensures booked { J.Journal.entries journal.new ≡ entries_paid (J.Journal.entries journal.old) order.company (confirm_decision self.old (J.Journal.room journal.old) (J.Journal.entries journal.old) order) }
-        ensures room { J.Journal.room journal.new ≡ J.Journal.room journal.old }
+        ensures answer { result
+            ≡ next
+            (confirm_decision self.old (J.Journal.capacity journal.old) (J.Journal.entries journal.old) order)
+            (λ d. Ok (amount_paid d)) }
+        ensures after { self.new
+            ≡ register_after self.old order.company
+            (confirm_decision self.old (J.Journal.capacity journal.old) (J.Journal.entries journal.old) order) }
+        ensures booked { J.Journal.entries journal.new
+            ≡ entries_paid (J.Journal.entries journal.old) order.company
+            (confirm_decision self.old (J.Journal.capacity journal.old) (J.Journal.entries journal.old) order) }
+        ensures capacity { J.Journal.capacity journal.new ≡ J.Journal.capacity journal.old }
     {
         let event = Event::Confirm(order.instalment);
         let (company, instalment) = self.meets(order.book, order.company, event)?;
@@ -145,7 +157,7 @@ impl Register {
             amount,
             ..Entry::default()
         })?;
-        self.moves(order.book, order.company, event)?;
+        self.act(order.book, order.company, event)?;
         Ok(amount)
     }
 
@@ -155,10 +167,16 @@ impl Register {
         journal: &mut J,
         order: SentOrder,
     ) -> Result<Cents, Returned<SentOrder>>
-        ensures answer { result ≡ spends order amount_paid (confirm_decision self.old (J.Journal.room journal.old) (J.Journal.entries journal.old) order.order) }
-        ensures after { self.new ≡ register_after self.old order.order.company (confirm_decision self.old (J.Journal.room journal.old) (J.Journal.entries journal.old) order.order) }
-        ensures booked { J.Journal.entries journal.new ≡ entries_paid (J.Journal.entries journal.old) order.order.company (confirm_decision self.old (J.Journal.room journal.old) (J.Journal.entries journal.old) order.order) }
-        ensures room { J.Journal.room journal.new ≡ J.Journal.room journal.old }
+        ensures answer { result
+            ≡ spends order amount_paid
+            (confirm_decision self.old (J.Journal.capacity journal.old) (J.Journal.entries journal.old) order.order) }
+        ensures after { self.new
+            ≡ register_after self.old order.order.company
+            (confirm_decision self.old (J.Journal.capacity journal.old) (J.Journal.entries journal.old) order.order) }
+        ensures booked { J.Journal.entries journal.new
+            ≡ entries_paid (J.Journal.entries journal.old) order.order.company
+            (confirm_decision self.old (J.Journal.capacity journal.old) (J.Journal.entries journal.old) order.order) }
+        ensures capacity { J.Journal.capacity journal.new ≡ J.Journal.capacity journal.old }
     {
         match self.confirm_numbers(journal, order.order()) {
             Ok(amount) => {
@@ -191,7 +209,52 @@ impl Register {
         ensures after { self.new ≡ register_after self.old company (reopen_decision self.old company) }
     {
         let number = self.number;
-        self.moves(number, company, Event::Reopen)?;
+        self.act(number, company, Event::Reopen)?;
         Ok(())
+    }
+}
+
+#[cfg(test)]
+mod tests {
+    use super::*;
+    use company::figures::TermsFigures;
+    use journal::own_journal::OwnJournal;
+
+    // An instalment is drawn, sent and paid once, and booked as an advance.
+    #[test]
+    fn instalment_is_paid_once(rt: HostRuntime) {
+        let mut register = Register::new(7);
+        let mut journal = OwnJournal::new();
+        let figures = TermsFigures {
+            advance: 100_000,
+            instalments: 3,
+            verification: 0,
+            central: 0,
+            points: 100,
+            density: 1,
+            year: 1,
+        };
+        assert!(rt; register.register(4, figures).is_ok());
+        let first = Order {
+            book: 7,
+            company: 4,
+            instalment: 1,
+        };
+        assert_eq!(rt; register.draw_numbers(4), Ok(first));
+        assert_eq!(rt; register.draw_numbers(4), Err(Reason::OrderOut.at(4)));
+        assert_eq!(rt; register.send_numbers(first), Ok(()));
+        assert_eq!(rt;
+            register.cancel_numbers(first),
+            Err(Reason::NotTheOrderOut.at(4))
+        );
+        assert_eq!(rt;
+            register.confirm_numbers(&mut journal, first),
+            Ok(Cents(33_333))
+        );
+        assert_eq!(rt;
+            register.confirm_numbers(&mut journal, first),
+            Err(Reason::NotTheOrderOut.at(4))
+        );
+        assert_eq!(rt; journal.len(), 1);
     }
 }

@@ -5,10 +5,8 @@ ghost use Rattle.orders.specs.Registers.{place_in, company_at, empty_register, r
 use company::figures::TermsFigures;
 use company::record::{Company, Event};
 use company::terms::Terms;
+use limits::MOST_COMPANIES;
 use units::refusal::{Reason, Refusal};
-
-/// How many companies a book has room for.
-pub const MOST_COMPANIES: usize = 16;
 
 /// The index of a company's place; refused by 4 past the last one.
 pub fn company_place(place: u64) -> Result<usize, Refusal>

@@ -6,4 +6,4 @@ use Rattle.bookfile.specs.Calls.{call_of}
 
 -- no statement but this one makes the call, whatever its figures
 abbrev pub OnlyMaker : Call → Statement → Type 0
-OnlyMaker call told = (filings : ℕ) (s : Statement) (zs : List (Option ℤ)) → call_of filings s zs ≡ Some call → s ≡ told
+OnlyMaker call statement = (filings : ℕ) (s : Statement) (zs : List (Option ℤ)) → call_of filings s zs ≡ Some call → s ≡ statement

@@ -10,9 +10,9 @@ use company::record::{Company, Phase};
 use costs::capital::{capital_cost, unit_component};
 use costs::figure::locality_figure;
 use costs::regime::additions;
-use journal::kept::Journal;
+use journal::journal::Journal;
+use limits::MOST_COMPANIES;
 use management::rule::Management;
-use orders::register::MOST_COMPANIES;
 use revenue::parts::Revenue;
 use revenue::served::Served;
 use std::fmt;
@@ -94,12 +94,22 @@ impl CompanyYear {
         points: &[PointRow],
         place: u64,
     ) -> Result<CompanyYear, Refusal>
-        ensures test { is_ok result ≡ is_ok (asked.balance_due (state J.Journal M.Management book.now) localities.now points.now place) }
-        ensures company { IfOk result (λ y. asked.company (state J.Journal M.Management book.now) place ≡ Ok y.company) }
-        ensures served { IfOk result (λ y. asked.served (state J.Journal M.Management book.now) localities.now points.now place ≡ Ok (y.served.regime.0, y.served.startup.0)) }
-        ensures revenue { IfOk result (λ y. asked.revenue (state J.Journal M.Management book.now) localities.now points.now place ≡ Ok y.revenue) }
-        ensures billed { IfOk result (λ y. asked.lines_billed (state J.Journal M.Management book.now) localities.now points.now place ≡ Ok y.billed) }
-        ensures due { IfOk result (λ y. asked.balance_due (state J.Journal M.Management book.now) localities.now points.now place ≡ Ok y.due) }
+        ensures test { is_ok result
+            ≡ is_ok (asked.balance_due (state J.Journal M.Management book.now) localities.now points.now place) }
+        ensures company { IfOk result
+            (λ y. asked.company (state J.Journal M.Management book.now) place ≡ Ok y.company) }
+        ensures served { IfOk result
+            (λ y. asked.served (state J.Journal M.Management book.now) localities.now points.now place
+            ≡ Ok (y.served.regime.0, y.served.startup.0)) }
+        ensures revenue { IfOk result
+            (λ y. asked.revenue (state J.Journal M.Management book.now) localities.now points.now place
+            ≡ Ok y.revenue) }
+        ensures billed { IfOk result
+            (λ y. asked.lines_billed (state J.Journal M.Management book.now) localities.now points.now place
+            ≡ Ok y.billed) }
+        ensures due { IfOk result
+            (λ y. asked.balance_due (state J.Journal M.Management book.now) localities.now points.now place
+            ≡ Ok y.due) }
     {
         Ok(CompanyYear {
             company: book.company(place)?,

@@ -2,4 +2,4 @@ pub mod Nearing
 pub mod Shares
 pub mod Turns
 pub mod Replacing
-pub mod Seats
+pub mod Owners

@@ -11,7 +11,7 @@ use Rattle.tables.specs.Blank.{past_table}
 use Rattle.costs.specs.Costs.{locality_figure}
 use Rattle.tables.specs.PointRows.{point_stands}
 use Rattle.tables.specs.States.{state_number}
-use Rattle.revenue.specs.Owners.{owns, seat, serves, serves_in}
+use Rattle.revenue.specs.Owners.{owns, point_locality, serves, serves_in}
 use Rattle.revenue.specs.Billed.{point_tariff, billed}
 use Rattle.revenue.specs.Served.{point_commercial, commercial_cents}
 use Rattle.revenue.specs.Recognised.{locality_figures}
@@ -19,9 +19,9 @@ use Rattle.revenue.specs.Ug1.{point_ug1, ug1_due}
 
 -- ---- A point's row
 module _ (t : TariffFigures) (ls : List LocalityRow) (ps : List PointRow) (company : ℕ) (i : ℕ) (new d : PointRow) where
-  pub billed_set : i < length ps → billed t ls (set ps i new) company + cond (serves ls company (get_or ps i d)) (point_tariff t (seat ls (get_or ps i d)) (get_or ps i d)) 0 ≡ billed t ls ps company + cond (serves ls company new) (point_tariff t (seat ls new) new) 0
+  pub billed_set : i < length ps → billed t ls (set ps i new) company + cond (serves ls company (get_or ps i d)) (point_tariff t (point_locality ls (get_or ps i d)) (get_or ps i d)) 0 ≡ billed t ls ps company + cond (serves ls company new) (point_tariff t (point_locality ls new) new) 0
   unfolding billed
-  billed_set within = sum_n_set (λ p. cond (serves ls company p) (point_tariff t (seat ls p) p) 0) ps i new d within
+  billed_set within = sum_n_set (λ p. cond (serves ls company p) (point_tariff t (point_locality ls p) p) 0) ps i new d within
 
   pub commercial_set : (state : State) → i < length ps → commercial_cents t ls (set ps i new) company state + cond (serves_in ls company state (get_or ps i d)) (point_commercial t (get_or ps i d)) 0 ≡ commercial_cents t ls ps company state + cond (serves_in ls company state new) (point_commercial t new) 0
   unfolding commercial_cents
@@ -31,12 +31,12 @@ module _ (t : TariffFigures) (ls : List LocalityRow) (ps : List PointRow) (compa
   module _ (old_foreign : serves ls company (get_or ps i d) ≡ false) (new_foreign : serves ls company new ≡ false) where
     pub billed_foreign : billed t ls (set ps i new) company ≡ billed t ls ps company
     unfolding billed
-    billed_foreign = sum_if_foreign (serves ls company) (λ p. point_tariff t (seat ls p) p) ps i new d old_foreign new_foreign
+    billed_foreign = sum_if_foreign (serves ls company) (λ p. point_tariff t (point_locality ls p) p) ps i new d old_foreign new_foreign
 
     pub commercial_foreign : (state : State) → commercial_cents t ls (set ps i new) company state ≡ commercial_cents t ls ps company state
     unfolding commercial_cents
     commercial_foreign state =
-        let no : (p : PointRow) → serves ls company p ≡ false → serves_in ls company state p ≡ false = λ p h. ap (λ (b : Bool). b && eqb (seat ls p).state (state_number state)) h in
+        let no : (p : PointRow) → serves ls company p ≡ false → serves_in ls company state p ≡ false = λ p h. ap (λ (b : Bool). b && eqb (point_locality ls p).state (state_number state)) h in
         sum_if_foreign (serves_in ls company state) (point_commercial t) ps i new d (no (get_or ps i d) old_foreign) (no new new_foreign)
 
 pub ug1_set : (t : TariffFigures) (ps : List PointRow) (i : ℕ) (new d : PointRow) → i < length ps → ug1_due t (set ps i new) + cond (point_stands (get_or ps i d)) (point_ug1 t (get_or ps i d)) 0 ≡ ug1_due t ps + cond (point_stands new) (point_ug1 t new) 0
@@ -62,13 +62,13 @@ module _ (ls : List LocalityRow) (company : ℕ) (i : ℕ) (new : LocalityRow) (
       (cases_lt i (length ls))
 
   -- a share that only the company's localities give is the same for every point
-  share_same : (share : LocalityRow → PointRow → ℕ) → ((l : LocalityRow) (p : PointRow) → owns company l ≡ false → share l p ≡ 0) → (p : PointRow) → share (seat (set ls i new) p) p ≡ share (seat ls p) p
+  share_same : (share : LocalityRow → PointRow → ℕ) → ((l : LocalityRow) (p : PointRow) → owns company l ≡ false → share l p ≡ 0) → (p : PointRow) → share (point_locality (set ls i new) p) p ≡ share (point_locality ls p) p
   share_same share none p =
       ⊎_elim
       (λ here.
-      let after : owns company (seat (set ls i new) p) ≡ false = ap (λ (n : ℕ). owns company (get_or (set ls i new) n past_table)) here ∙ still_foreign in
-      let before : owns company (seat ls p) ≡ false = ap (λ (n : ℕ). owns company (get_or ls n past_table)) here ∙ old_foreign in
-      none (seat (set ls i new) p) p after ∙ sym (none (seat ls p) p before))
+      let after : owns company (point_locality (set ls i new) p) ≡ false = ap (λ (n : ℕ). owns company (get_or (set ls i new) n past_table)) here ∙ still_foreign in
+      let before : owns company (point_locality ls p) ≡ false = ap (λ (n : ℕ). owns company (get_or ls n past_table)) here ∙ old_foreign in
+      none (point_locality (set ls i new) p) p after ∙ sym (none (point_locality ls p) p before))
       (λ elsewhere. ap (λ (l : LocalityRow). share l p) (get_or-set_other ls i p.locality new past_table elsewhere))
       (cases_eq p.locality i)
 
@@ -76,7 +76,7 @@ module _ (ls : List LocalityRow) (company : ℕ) (i : ℕ) (new : LocalityRow) (
   unfolding billed
   billed_refiled t ps =
       let share : LocalityRow → PointRow → ℕ = λ l p. cond (point_stands p && owns company l) (point_tariff t l p) 0 in
-      sum_n_same (λ p. share (seat (set ls i new) p) p) (λ p. share (seat ls p) p)
+      sum_n_same (λ p. share (point_locality (set ls i new) p) p) (λ p. share (point_locality ls p) p)
       (share_same share (λ l p h. cond-false (point_stands p && owns company l) (point_tariff t l p) 0 (and_right (point_stands p) (owns company l) h))) ps
 
   pub commercial_refiled : (t : TariffFigures) (ps : List PointRow) (state : State) → commercial_cents t (set ls i new) ps company state ≡ commercial_cents t ls ps company state
@@ -84,7 +84,7 @@ module _ (ls : List LocalityRow) (company : ℕ) (i : ℕ) (new : LocalityRow) (
   commercial_refiled t ps state =
       let in-state : LocalityRow → Bool = λ l. eqb l.state (state_number state) in
       let share : LocalityRow → PointRow → ℕ = λ l p. cond (point_stands p && owns company l && in-state l) (point_commercial t p) 0 in
-      sum_n_same (λ p. share (seat (set ls i new) p) p) (λ p. share (seat ls p) p)
+      sum_n_same (λ p. share (point_locality (set ls i new) p) p) (λ p. share (point_locality ls p) p)
       (share_same share (λ l p h.
       cond-false (point_stands p && owns company l && in-state l) (point_commercial t p) 0
       (ap (λ (b : Bool). b && in-state l) (and_right (point_stands p) (owns company l) h)))) ps

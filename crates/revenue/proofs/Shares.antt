@@ -11,7 +11,7 @@ use Rattle.tables.specs.declared.state.State.{State}
 use Rattle.tables.specs.PointRows.{point_stands}
 use Rattle.tables.specs.States.{state_number}
 use Rattle.tables.proofs.Holding.{point_held}
-use Rattle.revenue.specs.Owners.{owns, seat, serves, serves_in}
+use Rattle.revenue.specs.Owners.{owns, point_locality, serves, serves_in}
 use Rattle.revenue.specs.Served.{point_commercial, commercial_cents, served_for, served, served_within}
 
 a_year : (y : ℕ) → (y ≡ 365) ⊎ (y ≡ 366) → 365 ≤ y
@@ -34,8 +34,8 @@ cents_share t w ls ps company state =
     (λ p.
     cond_both (serves_in ls company state p) (point_commercial t p) 0 (λ n. n * 10000000 ≤ 2006 * t.commercial.0)
     (λ own.
-    let serving = and_parts (serves ls company p) (eqb (seat ls p).state (state_number state)) own in
-    let stands = and_parts (point_stands p) (owns company (seat ls p)) serving.0 in
+    let serving = and_parts (serves ls company p) (eqb (point_locality ls p).state (state_number state)) own in
+    let stands = and_parts (point_stands p) (owns company (point_locality ls p)) serving.0 in
     line_share t w p (point_held p stands.0).days)
     (λ _. omega arith))
     ps
@@ -48,8 +48,8 @@ served_small t w ls ps company state few =
     rounded_at_most (commercial_cents t ls ps company state * 10000000) t.commercial.0 131465216 (omega arith)
 
 -- so the points that were served can always be told
-pub told : (t : TariffFigures) → Within t → (ls : List LocalityRow) (ps : List PointRow) (company : ℕ) (state : State) → length ps ≤ 65536 → (cents : ℕ) → cents ≡ commercial_cents t ls ps company state → cents ≤ 6571556864 → is_some (served_within t cents) ≡ true
-told t w ls ps company state few cents is fits =
+pub served_fits : (t : TariffFigures) → Within t → (ls : List LocalityRow) (ps : List PointRow) (company : ℕ) (state : State) → length ps ≤ 65536 → (cents : ℕ) → cents ≡ commercial_cents t ls ps company state → cents ≤ 6571556864 → is_some (served_within t cents) ≡ true
+served_fits t w ls ps company state few cents is fits =
     let small : served_for t cents ≤ 131465216 = subst (λ (n : ℕ). served_for t n ≤ 131465216) (sym is) (served_small t w ls ps company state few) in
     ap is_some
     (cond-true (leb cents 6571556864) (cond (leb (served_for t cents) 131465216) (Some (served_for t cents)) None) None (le-leb cents 6571556864 fits)

@@ -13,13 +13,13 @@ abbrev pub owns : ℕ → LocalityRow → Bool
 owns company l = locality_stands l && l.company == company
 
 -- the row of a point's locality
-abbrev pub seat : List LocalityRow → PointRow → LocalityRow
-seat localities p = slice_index_or localities p.locality past_table
+abbrev pub point_locality : List LocalityRow → PointRow → LocalityRow
+point_locality localities p = slice_index_or localities p.locality past_table
 
 -- a point is a company's if it stands in a locality that is the company's
 abbrev pub serves : List LocalityRow → ℕ → PointRow → Bool
-serves localities company p = point_stands p && owns company (seat localities p)
+serves localities company p = point_stands p && owns company (point_locality localities p)
 
 -- and this locality is in a state
 abbrev pub serves_in : List LocalityRow → ℕ → State → PointRow → Bool
-serves_in localities company state p = serves localities company p && (seat localities p).state == state_number state
+serves_in localities company state p = serves localities company p && (point_locality localities p).state == state_number state

@@ -4,7 +4,9 @@ ghost use Rattle.limits.specs.Checked.{faultless};
 ghost use Rattle.tables.specs.Filings.{Test, Limits, Odds, row_fault, rows_fault, limit_fault, change_fault, odds_fault, filing_fault};
 
 use crate::rows::{AssetRow, LocalityRow, MOST_ASSET_CENTS, MOST_COUNT};
+use crate::state::STATES;
 use limits::{among, first_of, unless, unless_bad};
+use tariff::supply::AREAS;
 use units::refusal::{Reason, Refusal};
 
 // The figures of asset row 1 to 8 against their limit. Row r has the figures from 5r.
@@ -58,8 +60,8 @@ fn limit_fault(l: &LocalityRow) -> Option<u64>
     ensures { result ≡ limit_fault l.now }
 {
     first_of(&[
-        unless(among(2, l.state), 1),
-        unless(among(8, l.area), 2),
+        unless(among(STATES, l.state), 1),
+        unless(among(AREAS, l.area), 2),
         unless(l.expected <= MOST_COUNT, 3),
         unless(l.smart <= MOST_COUNT, 4),
         fault_of_rows(&l.rows, limit_of_row),
@@ -96,4 +98,43 @@ pub fn check_filing(old: &Option<LocalityRow>, new: &LocalityRow) -> Result<(), 
 {
     unless_bad(Reason::FigureLimit, limit_fault(new))?;
     unless_bad(Reason::FiguresAtOdds, odds_fault(old, new))
+}
+
+#[cfg(test)]
+mod tests {
+    use super::*;
+
+    // A figure beyond its limit is told before one at odds, which is told by the later of the two.
+    #[test]
+    fn first_fault_is_told(rt: HostRuntime) {
+        let mut row = LocalityRow {
+            state: 1,
+            area: 1,
+            ..LocalityRow::default()
+        };
+        row.rows[1].gross = 5;
+        assert_eq!(rt; check_filing(&None, &row), Ok(()));
+        row.rows[1].net = 6;
+        assert_eq!(rt;
+            check_filing(&None, &row),
+            Err(Reason::FiguresAtOdds.at(11))
+        );
+        row.area = 9;
+        assert_eq!(rt; check_filing(&None, &row), Err(Reason::FigureLimit.at(2)));
+    }
+
+    // Refiled, a locality keeps its state.
+    #[test]
+    fn state_stays(rt: HostRuntime) {
+        let old = LocalityRow {
+            state: 2,
+            area: 1,
+            ..LocalityRow::default()
+        };
+        let new = LocalityRow { state: 1, ..old };
+        assert_eq!(rt;
+            check_filing(&Some(old), &new),
+            Err(Reason::FiguresAtOdds.at(1))
+        );
+    }
 }

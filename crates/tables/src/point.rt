@@ -1,11 +1,13 @@
 // A delivery point within its limits.
 ghost use Rattle.std.specs.Prelude.{◌≡◌, ◌==◌, true, Some};
-ghost use Rattle.tables.specs.PointRows.{point_stands, PointHeld};
+ghost use Rattle.tables.specs.PointRows.{point_stands, PointHeld, billed_row};
 
+use crate::lengths::MOST_LOCALITIES;
 use crate::locality::Locality;
 use crate::rows::{PointRow, Row};
 use limits::among;
-use tariff::supply::{Reading, Supply};
+use tariff::bill::Bill;
+use tariff::supply::{CLASSES, MOST_DAYS, MOST_VOLUME, Reading, Supply};
 
 // Beside `Locality`: one generic struct for both, with its ghost field, would derive no `Copy`.
 #[derive(Clone, Copy, Debug, PartialEq, Eq)]
@@ -19,11 +21,11 @@ impl PointRow {
     fn stands(&self) -> bool
         ensures { result ≡ point_stands self.now }
     {
-        self.locality <= 255
-            && among(3, self.class)
+        self.locality < MOST_LOCALITIES as u64
+            && among(CLASSES, self.class)
             && self.domestic <= 1
-            && self.volume <= 1_000_000_000
-            && self.days <= 366
+            && self.volume <= MOST_VOLUME
+            && self.days <= MOST_DAYS
     }
 }
 
@@ -91,5 +93,16 @@ impl Point {
     {
         let row = self.row();
         Reading::new(row.volume, row.days).unwrap()
+    }
+
+    /// The row to write for it after a bill, which brings it to another volume and days.
+    pub fn billed_row(&self, bill: &Bill) -> PointRow
+        ensures { result ≡ billed_row self.now.row bill.now }
+    {
+        PointRow {
+            volume: bill.volume,
+            days: bill.days,
+            ..self.row
+        }
     }
 }

@@ -4,7 +4,9 @@ ghost use Rattle.tables.specs.Standing.{row_stands, rows_stand};
 ghost use Rattle.tables.specs.Filings.{locality_stands};
 
 use crate::rows::{AssetRow, LocalityRow, MOST_ASSET_CENTS, MOST_COUNT};
-use limits::among;
+use crate::state::STATES;
+use limits::{MOST_COMPANIES, among};
+use tariff::supply::AREAS;
 
 // Whether an asset row has no fault.
 fn row_stands(a: &AssetRow) -> bool
@@ -34,9 +36,9 @@ fn rows_stand(rows: &[AssetRow; 8]) -> bool
 pub fn locality_stands(l: &LocalityRow) -> bool
     ensures { result ≡ locality_stands l.now }
 {
-    l.company <= 15
-        && among(2, l.state)
-        && among(8, l.area)
+    l.company < MOST_COMPANIES as u64
+        && among(STATES, l.state)
+        && among(AREAS, l.area)
         && l.expected <= MOST_COUNT
         && l.smart <= MOST_COUNT
         && rows_stand(&l.rows)

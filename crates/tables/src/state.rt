@@ -8,6 +8,9 @@ pub enum State {
     StartUp = 2,
 }
 
+/// The states are numbered from 1 to this.
+pub const STATES: u64 = 2;
+
 impl State {
     pub fn number(self) -> u64
         ensures { result ≡ state_number self }

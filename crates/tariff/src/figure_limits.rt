@@ -4,6 +4,7 @@ ghost use Rattle.limits.specs.First.{first_beyond, first_of};
 ghost use Rattle.tariff.specs.Limits.{days_fit, rate_fits, coefficient_fits, life_fits, reference_fits, brackets_of, first_bad_end, fixed_tests, variable_tests, cost_tests, first_bad_figure, Within};
 
 use crate::figures::{Bracket, Coefficient, Life, Rate, TariffFigures};
+use crate::supply::MOST_VOLUME;
 use limits::{Limited, among, first_beyond, first_of, unless};
 
 impl Limited for Coefficient {
@@ -53,7 +54,7 @@ fn first_bad_end(first: u64, brackets: &[Bracket]) -> Option<u64>
 {
     match brackets {
         [] => None,
-        [last] => unless(last.end == 1_000_000_000, first),
+        [last] => unless(last.end == MOST_VOLUME, first),
         [bracket, next, ..] => {
             if bracket.end < next.end {
                 first_bad_end(first + 1, &brackets[1..])

@@ -10,7 +10,7 @@ use Rattle.orders.specs.declared.order.SentOrder.{SentOrder}
 use Rattle.orders.specs.declared.order.Returned.{Returned}
 use Rattle.book.specs.States.{BookState}
 use Rattle.orders.specs.Orders.{order_drawn, spends}
-use Rattle.book.specs.Companies.{number_of, drawing, cancelling, sending, bouncing, moved}
+use Rattle.book.specs.Companies.{number_of, draw_decision, cancel_decision, send_decision, bounce_decision, book_after_event}
 use Rattle.book.specs.Closings.{balance_of, closed_by}
 use Rattle.units.proofs.Granted.{within}
 
@@ -18,11 +18,11 @@ replaced : {A : Type 0} (xs : List (Option A)) (place : ℕ) (a b : A) → get_o
 replaced xs place a b there = get_or-set_same xs place (Some b) None (within xs place a there)
 
 -- a drawn order can be cancelled
-pub drawn_cancels : (b after : BookState) (company : ℕ) (drawn : DrawnOrder) → Ok drawn ≡ order_drawn (number_of b.opened) company (drawing b company) → after ≡ moved b company (drawing b company) → IsOk (cancelling after drawn.order)
+pub drawn_cancels : (b after : BookState) (company : ℕ) (drawn : DrawnOrder) → Ok drawn ≡ order_drawn (number_of b.opened) company (draw_decision b company) → after ≡ book_after_event b company (draw_decision b company) → IsOk (cancel_decision after drawn.order)
 drawn_cancels b after company drawn answer moves = grind (arith, common_steps, replaced)
 
 -- a sent order can bounce
-pub sent_bounces : (b after : BookState) (drawn : DrawnOrder) (sent : SentOrder) → Ok sent ≡ spends drawn (λ d. record { order = drawn.order }) (sending b drawn.order) → after ≡ moved b drawn.order.company (sending b drawn.order) → IsOk (bouncing after sent.order)
+pub sent_bounces : (b after : BookState) (drawn : DrawnOrder) (sent : SentOrder) → Ok sent ≡ spends drawn (λ d. record { order = drawn.order }) (send_decision b drawn.order) → after ≡ book_after_event b drawn.order.company (send_decision b drawn.order) → IsOk (bounce_decision after sent.order)
 sent_bounces b after drawn sent answer moves = grind (arith, common_steps, replaced)
 
 -- a refused order comes back as it was

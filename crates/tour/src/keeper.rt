@@ -6,7 +6,7 @@ mod rows;
 mod spending;
 
 use book::book::Book;
-use journal::own::OwnJournal;
+use journal::own_journal::OwnJournal;
 use management::municipal::Municipal;
 use tables::rows::{LocalityRow, PointRow};
 

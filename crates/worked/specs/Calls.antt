@@ -40,7 +40,7 @@ empty_book =
     record {
       opened = None;
       entries = [];
-      room = 256;
+      capacity = 256;
       price = λ points density year. municipal_price nine_prices points density;
     }
 

@@ -23,20 +23,20 @@ use Rattle.book.specs.declared.answer.Granted.{Granted}
 use Rattle.book.specs.Calls.{State}
 use Rattle.book.specs.JournalSums.{is_bill, charge_to, charged_to, ug1_booked, gs_booked, entries_of, bills_of}
 use Rattle.yearly.specs.Histories.{Told, History, or_else, registers, files, enrols, terms_of, filing_of, enrolment_of}
-use Rattle.yearly.specs.Entries.{entry_of, entry_told, entries_told}
+use Rattle.yearly.specs.Entries.{entry_of, entry_booked, entries_booked}
 use Rattle.yearly.proofs.Ties.{Fixed}
 
 -- ---- What holds
 
 -- an enrolled point stands, and its locality is filed
 pub record Enrolled (y : Fixed) (h : History) (ps : List PointRow) (place : ℕ) (e : Enrolment) : Type 0 where
-  pub within : place < y.places
+  pub within : place < y.point_places
   pub stands : point_stands (get_or ps place no_point) ≡ true
-  pub seated : is_some (filing_of y.filings h e.locality) ≡ true
+  pub filed : is_some (filing_of y.filings h e.locality) ≡ true
 
 -- a filed locality stands, and its company is registered
 pub record Filed (y : Fixed) (h : History) (place : ℕ) (row : LocalityRow) : Type 0 where
-  pub within : place < y.seats
+  pub within : place < y.locality_places
   pub stands : locality_stands row ≡ true
   pub owned : is_some (terms_of h row.company) ≡ true
 
@@ -52,7 +52,7 @@ pub record Adds (t : TariffFigures) (es : List Entry) (ls : List LocalityRow) (p
 
 -- the entries are those that the history tells, and name nobody else
 pub record Tells (y : Fixed) (h : History) (es : List Entry) : Type 0 where
-  pub entries : es ≡ entries_told y.filings h
+  pub entries : es ≡ entries_booked y.filings h
   pub companies : (company : ℕ) → terms_of h company ≡ None → entries_of es company ≡ []
   pub points : (point : ℕ) → enrolment_of h point ≡ None → bills_of es point ≡ []
 
@@ -100,7 +100,7 @@ standing_later y h h' ps later same s =
     record {
       points = λ place e is.
           let old = s.points place e (sym (same.enrolled place) ∙ is) in
-          record { within = old.within; stands = old.stands; seated = ap is_some (same.filed e.locality) ∙ old.seated };
+          record { within = old.within; stands = old.stands; filed = ap is_some (same.filed e.locality) ∙ old.filed };
       localities = λ place row is.
           let old = s.localities place row (sym (same.filed place) ∙ is) in
           record { within = old.within; stands = old.stands; owned = still _ _ (later.registered row.company) old.owned };
@@ -109,10 +109,10 @@ standing_later y h h' ps later same s =
 -- ---- A call that books nothing
 
 module _ (y : Fixed) (h : History) (x : Told) (es : List Entry) (later : Later h (x ∷ h)) (T : Tells y h es) where
-  pub tells_later : entry_told y.filings h x.0 x.1 ≡ [] → Tells y (x ∷ h) es
+  pub tells_later : entry_booked y.filings h x.0 x.1 ≡ [] → Tells y (x ∷ h) es
   tells_later none =
       record {
-        entries = T.entries ∙ sym (append-nil (entries_told y.filings h)) ∙ ap (λ (more : List Entry). entries_told y.filings h ++ more) (sym none);
+        entries = T.entries ∙ sym (append-nil (entries_booked y.filings h)) ∙ ap (λ (more : List Entry). entries_booked y.filings h ++ more) (sym none);
         companies = λ company no. T.companies company (later.registered company no);
         points = λ point no. T.points point (later.enrolled point no);
       }
@@ -125,7 +125,7 @@ module _ (y : Fixed) (h : History) (x : Told) (es : List Entry) (later : Later h
       let fresh : filter test (e ∷ []) ≡ [] = ⊎_elim (λ (passes : test e ≡ true). absurd (fails passes)) (λ (no : test e ≡ false). ap (λ (b : Bool). cond b (e ∷ []) []) no) (cases_Bool (test e)) in
       filter-append test es (e ∷ []) ∙ ap (λ (xs : List Entry). xs ++ filter test (e ∷ [])) none ∙ fresh
 
-  pub tells_more : (e : Entry) → entry_told y.filings h x.0 x.1 ≡ e ∷ [] → is_some (terms_of h e.company) ≡ true → (is_bill e.kind ≡ true → is_some (enrolment_of h e.place) ≡ true) → Tells y (x ∷ h) (es ++ e ∷ [])
+  pub tells_more : (e : Entry) → entry_booked y.filings h x.0 x.1 ≡ e ∷ [] → is_some (terms_of h e.company) ≡ true → (is_bill e.kind ≡ true → is_some (enrolment_of h e.place) ≡ true) → Tells y (x ∷ h) (es ++ e ∷ [])
   tells_more e one owner place =
       record {
         entries = (λ z. T.entries z ++ sym one z);
@@ -163,7 +163,7 @@ pub record Silent (y : Fixed) (h : History) (c : Call) : Type 0 where
 
 module _ (y : Fixed) (h : History) (es : List Entry) (ls : List LocalityRow) (ps : List PointRow) (B : Booked y h es ls ps) where
   -- nothing of the sort is told by a call
-  pub unaltered : (x : Told) → Later h (x ∷ h) → Same y h (x ∷ h) → entry_told y.filings h x.0 x.1 ≡ [] → Booked y (x ∷ h) es ls ps
+  pub unaltered : (x : Told) → Later h (x ∷ h) → Same y h (x ∷ h) → entry_booked y.filings h x.0 x.1 ≡ [] → Booked y (x ∷ h) es ls ps
   unaltered x later same none =
       record { standing = standing_later y h (x ∷ h) ps later same B.standing; adds = B.adds; tells = tells_later y h x es later B.tells none }
 

@@ -15,8 +15,8 @@ use Rattle.tables.specs.declared.rows.LocalityRow.{LocalityRow}
 use Rattle.tables.specs.declared.rows.PointRow.{PointRow}
 use Rattle.tables.specs.Blank.{no_locality, no_point, no_point_blank, past_table}
 use Rattle.tables.specs.Filings.{limit_fault, locality_stands}
-use Rattle.tables.specs.PointRows.{point_stands}
-use Rattle.revenue.specs.Owners.{owns, seat, serves}
+use Rattle.tables.specs.PointRows.{point_stands, billed_row}
+use Rattle.revenue.specs.Owners.{owns, point_locality, serves}
 use Rattle.revenue.specs.Billed.{point_tariff, billed}
 use Rattle.revenue.specs.Gs.{point_gs}
 use Rattle.revenue.specs.Ug1.{point_ug1}
@@ -36,10 +36,10 @@ use Rattle.calls.specs.Decisions.{billing as billing_in}
 use Rattle.book.specs.declared.answer.Granted.{Granted}
 use Rattle.book.specs.declared.answer.Granted.TheVariants as granted
 use Rattle.book.specs.States.{BookState}
-use Rattle.book.specs.Tables.{written, billed_row}
+use Rattle.book.specs.Tables.{written}
 use Rattle.orders.specs.Payments.{amount_paid, advance_entry}
-use Rattle.book.specs.Companies.{registered, registered_by, decided, confirming, confirmed_by, moved, drawing, cancelling, sending, bouncing}
-use Rattle.book.specs.Closings.{closing, balance_of, closed_by, balance_entry, reopening}
+use Rattle.book.specs.Companies.{register_answer, book_with_terms, decided, confirm_decision, confirmed_by, book_after_event, draw_decision, cancel_decision, send_decision, bounce_decision}
+use Rattle.book.specs.Closings.{close_decision, balance_of, closed_by, balance_entry, reopen_decision}
 use Rattle.book.specs.Rows.{filing, enrolling, billing, bill_of, billed_by, bill_entry}
 use Rattle.book.specs.Calls.{State, grants, filed_row, drawn_answer, answer_to, after_call}
 use Rattle.book.specs.JournalSums.{is_bill, charge_to, charged_to}
@@ -50,7 +50,7 @@ use Rattle.book.proofs.QuietLaws.{nothing_billed, cond_nothing}
 use Rattle.book.proofs.BillLaw.{still_stands, year_days}
 use Rattle.orders.proofs.OrderLaws.{order_laws}
 use Rattle.yearly.specs.Histories.{Told, History, or_else, terms_of, filing_of, enrolment_of}
-use Rattle.yearly.specs.Entries.{locality_in, seat_in, company_of, entry_told, payment_told, bill_told}
+use Rattle.yearly.specs.Entries.{locality_in, locality_enrolled, company_of, entry_booked, booked_payment, booked_bill}
 use Rattle.yearly.proofs.Stories.{Held}
 use Rattle.yearly.proofs.Ties.{Fixed, Moving, book_at, state_at, story, PointTied, Tied}
 use Rattle.yearly.proofs.Grants.{Filed as GrantedFiling, filing_granted, unbilled, Enrolled as GrantedEnrolling, enrolling_granted}
@@ -83,7 +83,7 @@ record Place (y : Fixed) (h : History) (m : Moving) (point : ℕ) : Type 0 where
   enrolled : enrolment_of h point ≡ Some e
   row : LocalityRow
   filed : filing_of y.filings h e.locality ≡ Some row
-  seat : seat m.localities (get_or m.points point no_point) ≡ row
+  point_locality : point_locality m.localities (get_or m.points point no_point) ≡ row
   stands : locality_stands row ≡ true
   owned : is_some (terms_of h row.company) ≡ true
 
@@ -112,34 +112,34 @@ module _ (y : Fixed) (h : History) (m : Moving) (T : Tied y h m) (B : Booked y h
   on_record company c stood = slot_registered company c (get_or m.companies company None) (T.companies company) stood
 
   -- the row at a place of the locality table, whatever is read past it
-  row_at : (place : ℕ) → place < y.seats → get_or m.localities place past_table ≡ locality_in (filing_of y.filings h place)
+  row_at : (place : ℕ) → place < y.locality_places → get_or m.localities place past_table ≡ locality_in (filing_of y.filings h place)
   row_at place within =
-      let in_table : place < length m.localities = omega (arith, T.seats) in
+      let in_table : place < length m.localities = omega (arith, T.locality_places) in
       get_or_default m.localities place past_table no_locality in_table ∙ T.localities place
 
   place_of : (point : ℕ) → point_stands (get_or m.points point no_point) ≡ true → Place y h m point
   place_of point stands =
       let found = enrolment_at (get_or m.points point no_point) (enrolment_of h point) _ _ (T.points point) stands in
       let e = found.0 in
-      let row = there (filing_of y.filings h e.locality) (B.standing.points point e found.1).seated in
+      let row = there (filing_of y.filings h e.locality) (B.standing.points point e found.1).filed in
       let of_row = B.standing.localities e.locality row.0 row.1 in
       record {
         e = e;
         enrolled = found.1;
         row = row.0;
         filed = row.1;
-        seat = ap (λ (n : ℕ). get_or m.localities n past_table) found.2 ∙ row_at e.locality of_row.within ∙ ap locality_in row.1;
+        point_locality = ap (λ (n : ℕ). get_or m.localities n past_table) found.2 ∙ row_at e.locality of_row.within ∙ ap locality_in row.1;
         stands = of_row.stands;
         owned = of_row.owned;
       }
 
   -- ---- Calls that book nothing and leave the tables
 
-  event_booked : (c : Call) (place : ℕ) (answer : Company × ℕ → Granted) → Silent y h c → (r : Result (Company × ℕ) Refusal) → BookedIn y ((c, grants r answer) ∷ h) (with_book (moved book place r))
+  event_booked : (c : Call) (place : ℕ) (answer : Company × ℕ → Granted) → Silent y h c → (r : Result (Company × ℕ) Refusal) → BookedIn y ((c, grants r answer) ∷ h) (with_book (book_after_event book place r))
   event_booked c place answer silent (Ok d) = spoken y h m.entries m.localities m.points B c (Ok (answer d)) silent
   event_booked c place answer silent (Err refusal) = refused y h m.entries m.localities m.points B c refusal
 
-  register_booked : (company : ℕ) (f : TermsFigures) (r : Result Terms Refusal) → BookedIn y ((call.Register company f, grants r (λ t. granted.Registered)) ∷ h) (with_book (registered_by book company r))
+  register_booked : (company : ℕ) (f : TermsFigures) (r : Result Terms Refusal) → BookedIn y ((call.Register company f, grants r (λ t. granted.Registered)) ∷ h) (with_book (book_with_terms book company r))
   register_booked company f (Err refusal) = refused y h m.entries m.localities m.points B (call.Register company f) refusal
   register_booked company f (Ok terms) =
       unaltered y h m.entries m.localities m.points B (call.Register company f, Ok granted.Registered)
@@ -148,7 +148,7 @@ module _ (y : Fixed) (h : History) (m : Moving) (T : Tied y h m) (B : Booked y h
 
   -- ---- Payments
 
-  payment_booked : (x : Told) (e : Entry) → Later h (x ∷ h) → Same y h (x ∷ h) → entry_told y.filings h x.0 x.1 ≡ e ∷ [] → is_some (terms_of h e.company) ≡ true → is_bill e.kind ≡ false → e.ug1.0 ≡ pos 0 → e.other.0 ≡ pos 0 → Booked y (x ∷ h) (m.entries ++ e ∷ []) m.localities m.points
+  payment_booked : (x : Told) (e : Entry) → Later h (x ∷ h) → Same y h (x ∷ h) → entry_booked y.filings h x.0 x.1 ≡ e ∷ [] → is_some (terms_of h e.company) ≡ true → is_bill e.kind ≡ false → e.ug1.0 ≡ pos 0 → e.other.0 ≡ pos 0 → Booked y (x ∷ h) (m.entries ++ e ∷ []) m.localities m.points
   payment_booked x e later same one owner no_bill no_ug1 no_gs =
       record {
         standing = standing_later y h (x ∷ h) m.points later same B.standing;
@@ -157,20 +157,20 @@ module _ (y : Fixed) (h : History) (m : Moving) (T : Tied y h m) (B : Booked y h
         tells = tells_more y h x m.entries later B.tells e one owner (λ bill. absurd (false≢true (sym no_bill ∙ bill)));
       }
 
-  confirm_booked : (o : Order) (r : Result (Company × ℕ) Refusal) → confirming book o ≡ r → BookedIn y ((call.Confirm o, grants r (λ d. granted.Paid (amount_paid d))) ∷ h) (with_book (confirmed_by book o.company r))
+  confirm_booked : (o : Order) (r : Result (Company × ℕ) Refusal) → confirm_decision book o ≡ r → BookedIn y ((call.Confirm o, grants r (λ d. granted.Paid (amount_paid d))) ∷ h) (with_book (confirmed_by book o.company r))
   confirm_booked o (Err refusal) answer = refused y h m.entries m.localities m.points B (call.Confirm o) refusal
   confirm_booked o (Ok d) answer =
-      let decision = both_granted (decided book o.book o.company (event.Confirm o.instalment)) (append_answer y.room m.entries) d answer in
+      let decision = both_granted (decided book o.book o.company (event.Confirm o.instalment)) (append_answer y.capacity m.entries) d answer in
       let g = event_granted book.opened o.book o.company (event.Confirm o.instalment) d decision in
       let its = (order_laws.confirmed g.c o.instalment d.1 g.answer).0 in
       payment_booked (call.Confirm o, Ok (granted.Paid (amount_paid d))) (advance_entry o.company d.1 (amount_paid d))
       (record { registered = λ company none. none; enrolled = λ point none. none }) (record { filed = λ place. refl; enrolled = λ point. refl })
-      (λ z. payment_told kind.Advance o.company (its z) (amount_paid d) ∷ []) (on_record o.company g.c g.stood) refl refl refl
+      (λ z. booked_payment kind.Advance o.company (its z) (amount_paid d) ∷ []) (on_record o.company g.c g.stood) refl refl refl
 
-  close_booked : (company : ℕ) (r : Result (Company × Cents) Refusal) → closing book m.localities m.points company ≡ r → BookedIn y ((call.Close company, grants (balance_of r) granted.Closed) ∷ h) (with_book (closed_by book company r))
+  close_booked : (company : ℕ) (r : Result (Company × Cents) Refusal) → close_decision book m.localities m.points company ≡ r → BookedIn y ((call.Close company, grants (balance_of r) granted.Closed) ∷ h) (with_book (closed_by book company r))
   close_booked company (Err refusal) answer = refused y h m.entries m.localities m.points B (call.Close company) refusal
   close_booked company (Ok d) answer =
-      let decision = both_granted _ (append_answer y.room m.entries) d answer in
+      let decision = both_granted _ (append_answer y.capacity m.entries) d answer in
       let fit = when_granted (tables_fit m.localities m.points) _ _ _ d decision in
       let q = next_granted (deciding m.companies y.number y.number company event.Close) _ d fit.1 in
       let g = event_granted book.opened y.number company event.Close q.0 q.1 in
@@ -189,12 +189,12 @@ module _ (y : Fixed) (h : History) (m : Moving) (T : Tied y h m) (B : Booked y h
             record {
               points = λ point e is.
                   let old = B.standing.points point e is in
-                  record { within = old.within; stands = old.stands; seated = told_still (eqb place e.locality) row (filing_of y.filings h e.locality) old.seated };
+                  record { within = old.within; stands = old.stands; filed = told_still (eqb place e.locality) row (filing_of y.filings h e.locality) old.filed };
               localities = λ i found is.
                   ⊎_elim
                   (λ (now : (eqb place i ≡ true) × (row ≡ found)).
                   let here = eqb-true place i now.0 in
-                  let new : Filed y h place row = record { within = omega (arith, g.within, T.seats); stands = g.stands; owned = on_record row.company g.active.company g.active.stood } in
+                  let new : Filed y h place row = record { within = omega (arith, g.within, T.locality_places); stands = g.stands; owned = on_record row.company g.active.company g.active.stood } in
                   filed_later (subst (λ (k : ℕ). Filed y h k found) here (subst (Filed y h place) now.1 new)))
                   (λ (before : (eqb place i ≡ false) × (filing_of y.filings h i ≡ Some found)). filed_later (B.standing.localities i found before.1))
                   (told_last (eqb place i) row found (filing_of y.filings h i) is);
@@ -203,7 +203,7 @@ module _ (y : Fixed) (h : History) (m : Moving) (T : Tied y h m) (B : Booked y h
             record {
               lines = λ company.
                   B.adds.lines company
-                  ∙ ap pos (sym (refiled_billed y.tariff.figures company m.localities place row g.within g.stands g.keeps m.points seat_stands));
+                  ∙ ap pos (sym (refiled_billed y.tariff.figures company m.localities place row g.within g.stands g.keeps m.points point_locality_stands));
               ug1 = B.adds.ug1;
               gs = B.adds.gs;
             };
@@ -213,8 +213,8 @@ module _ (y : Fixed) (h : History) (m : Moving) (T : Tied y h m) (B : Booked y h
       filed_later : {i : ℕ} {found : LocalityRow} → Filed y h i found → Filed y ((call.File place n, Ok granted.Filed) ∷ h) i found
       filed_later {i} {found} f = record { within = f.within; stands = f.stands; owned = f.owned }
 
-      seat_stands : (i : ℕ) → point_stands (get_or m.points i no_point) ≡ true → locality_stands (seat m.localities (get_or m.points i no_point)) ≡ true
-      seat_stands i stands = let p = place_of i stands in ap locality_stands p.seat ∙ p.stands
+      point_locality_stands : (i : ℕ) → point_stands (get_or m.points i no_point) ≡ true → locality_stands (point_locality m.localities (get_or m.points i no_point)) ≡ true
+      point_locality_stands i stands = let p = place_of i stands in ap locality_stands p.point_locality ∙ p.stands
 
   file_booked : (place n : ℕ) (r : Result LocalityRow Refusal) → filing book m.localities place (filed_row y.filings n) ≡ r → BookedIn y ((call.File place n, grants r (λ l. granted.Filed)) ∷ h) (record { book = book; localities = written (λ l. l) m.localities place r; points = m.points })
   file_booked place n (Err refusal) answer = refused y h m.entries m.localities m.points B (call.File place n) refusal
@@ -244,7 +244,7 @@ module _ (y : Fixed) (h : History) (m : Moving) (T : Tied y h m) (B : Booked y h
                   record {
                     within = was.within;
                     stands = ap point_stands (get_or-set_other m.points point i new no_point elsewhere) ∙ was.stands;
-                    seated = was.seated;
+                    filed = was.filed;
                   })
                   (told_last (eqb point i) e found (enrolment_of h i) is);
               localities = λ place found is.
@@ -255,8 +255,8 @@ module _ (y : Fixed) (h : History) (m : Moving) (T : Tied y h m) (B : Booked y h
             record {
               lines = λ company.
                   let replaced = billed_set t m.localities m.points company point new no_point g.within in
-                  let before = cond-false (serves m.localities company old) (point_tariff t (seat m.localities old) old) 0 (ap (λ (b : Bool). b && owns company (seat m.localities old)) g.blank) in
-                  let after = cond_nothing (serves m.localities company new) (point_tariff t (seat m.localities new) new) (none_due t (seat m.localities new) new refl refl) in
+                  let before = cond-false (serves m.localities company old) (point_tariff t (point_locality m.localities old) old) 0 (ap (λ (b : Bool). b && owns company (point_locality m.localities old)) g.blank) in
+                  let after = cond_nothing (serves m.localities company new) (point_tariff t (point_locality m.localities new) new) (none_due t (point_locality m.localities new) new refl refl) in
                   let lines = B.adds.lines company in
                   omega (arith, ints, replaced, before, after, lines);
               ug1 =
@@ -278,9 +278,9 @@ module _ (y : Fixed) (h : History) (m : Moving) (T : Tied y h m) (B : Booked y h
       enrols_here : Enrolled y ((call.Enrol point e, Ok granted.Enrolled) ∷ h) (set m.points point (unbilled e)) point e
       enrols_here =
           record {
-            within = omega (arith, g.within, T.places);
+            within = omega (arith, g.within, T.point_places);
             stands = ap point_stands (get_or-set_same m.points point (unbilled e) no_point g.within) ∙ g.stands;
-            seated = is_filed (filing_of y.filings h e.locality) (ap locality_stands (sym (row_at e.locality (omega (arith, g.seated, T.seats)))) ∙ g.seat_stands);
+            filed = is_filed (filing_of y.filings h e.locality) (ap locality_stands (sym (row_at e.locality (omega (arith, g.in_table, T.locality_places)))) ∙ g.point_locality_stands);
           }
 
   enrol_booked : (point : ℕ) (e : Enrolment) (r : Result PointRow Refusal) → enrolling book m.localities m.points point e ≡ r → BookedIn y ((call.Enrol point e, grants r (λ p. granted.Enrolled)) ∷ h) (record { book = book; localities = m.localities; points = written (λ p. p) m.points point r })
@@ -324,7 +324,7 @@ module _ (y : Fixed) (h : History) (m : Moving) (T : Tied y h m) (B : Booked y h
                     (λ (here : i ≡ point). ap (λ (k : ℕ). point_stands (get_or (set m.points point after) k no_point)) here ∙ ap point_stands (get_or-set_same m.points point after no_point g.within) ∙ stands_after)
                     (λ (elsewhere : i ≡ point → ⊥). ap point_stands (get_or-set_other m.points point i after no_point elsewhere) ∙ was.stands)
                     (cases_eq i point);
-                seated = was.seated;
+                filed = was.filed;
               };
           localities = λ place found is.
               let was = B.standing.localities place found is in
@@ -332,24 +332,24 @@ module _ (y : Fixed) (h : History) (m : Moving) (T : Tied y h m) (B : Booked y h
         }
 
     -- what a bill charges its point's company, and nobody else
-    lines_more : (company : ℕ) (its : Bool) → eqb (seat m.localities row).company company ≡ its → charged_to m.entries company ≡ pos (billed t m.localities m.points company) → charged_to (m.entries ++ entry ∷ []) company ≡ pos (billed t m.localities (set m.points point after) company)
+    lines_more : (company : ℕ) (its : Bool) → eqb (point_locality m.localities row).company company ≡ its → charged_to m.entries company ≡ pos (billed t m.localities m.points company) → charged_to (m.entries ++ entry ∷ []) company ≡ pos (billed t m.localities (set m.points point after) company)
     lines_more company its is lines =
         let replaced = billed_set t m.localities m.points company point after no_point g.within in
-        let of_company : owns company (seat m.localities row) ≡ its = ap (λ (b : Bool). b && eqb (seat m.localities row).company company) g.seat_stands ∙ is in
-        let before = ap (λ (b : Bool). cond b (point_tariff t (seat m.localities row) row) 0) (ap (λ (b : Bool). b && owns company (seat m.localities row)) g.stands ∙ of_company) in
-        let now = ap (λ (b : Bool). cond b (point_tariff t (seat m.localities after) after) 0) (ap (λ (b : Bool). b && owns company (seat m.localities after)) stands_after ∙ of_company) in
+        let of_company : owns company (point_locality m.localities row) ≡ its = ap (λ (b : Bool). b && eqb (point_locality m.localities row).company company) g.point_locality_stands ∙ is in
+        let before = ap (λ (b : Bool). cond b (point_tariff t (point_locality m.localities row) row) 0) (ap (λ (b : Bool). b && owns company (point_locality m.localities row)) g.stands ∙ of_company) in
+        let now = ap (λ (b : Bool). cond b (point_tariff t (point_locality m.localities after) after) 0) (ap (λ (b : Bool). b && owns company (point_locality m.localities after)) stands_after ∙ of_company) in
         let more = sum_z_push (charge_to company) m.entries entry in
         let charge = ap (λ (b : Bool). cond b c.bill.charge.tariff.0 (pos 0)) (ap (λ (n : ℕ). eqb n company) g.company ∙ is) in
         gained its (billed t m.localities m.points company) (billed t m.localities (set m.points point after) company)
-        (cond (serves m.localities company row) (point_tariff t (seat m.localities row) row) 0) (cond (serves m.localities company after) (point_tariff t (seat m.localities after) after) 0)
-        (point_tariff t (seat m.localities row) row) (point_tariff t (seat m.localities after) after)
+        (cond (serves m.localities company row) (point_tariff t (point_locality m.localities row) row) 0) (cond (serves m.localities company after) (point_tariff t (point_locality m.localities after) after) 0)
+        (point_tariff t (point_locality m.localities row) row) (point_tariff t (point_locality m.localities after) after)
         (charged_to m.entries company) (charged_to (m.entries ++ entry ∷ []) company) (charge_to company entry) c.bill.charge.tariff.0
         replaced before now more charge g.charges.tariff lines
 
     bill_adds : Adds t (m.entries ++ entry ∷ []) m.localities (set m.points point after)
     bill_adds =
         record {
-          lines = λ company. lines_more company (eqb (seat m.localities row).company company) refl (B.adds.lines company);
+          lines = λ company. lines_more company (eqb (point_locality m.localities row).company company) refl (B.adds.lines company);
           ug1 =
               let more = sum_z_push (λ (a : Entry). a.ug1.0) m.entries entry in
               let replaced = ug1_set t m.points point after no_point g.within in
@@ -367,38 +367,38 @@ module _ (y : Fixed) (h : History) (m : Moving) (T : Tied y h m) (B : Booked y h
     bill_tells : Tells y (x ∷ h) (m.entries ++ entry ∷ [])
     bill_tells =
         let place = place_of point g.stands in
-        let seated : company_of y.filings h point ≡ place.row.company = ap (λ (e : Option Enrolment). (seat_in y.filings h e).company) place.enrolled ∙ ap (λ (filing : Option LocalityRow). (locality_in filing).company) place.filed in
-        let of_seat : c.company ≡ place.row.company = g.company ∙ ap (λ (l : LocalityRow). l.company) place.seat in
+        let owner : company_of y.filings h point ≡ place.row.company = ap (λ (e : Option Enrolment). (locality_enrolled y.filings h e).company) place.enrolled ∙ ap (λ (filing : Option LocalityRow). (locality_in filing).company) place.filed in
+        let of_point_locality : c.company ≡ place.row.company = g.company ∙ ap (λ (l : LocalityRow). l.company) place.point_locality in
         tells_more y h x m.entries (record { registered = λ company none. none; enrolled = λ i none. none }) B.tells entry
-        (ap (λ (company : ℕ). bill_told company point change c.bill ∷ []) (seated ∙ sym of_seat))
-        (ap (λ (company : ℕ). is_some (terms_of h company)) of_seat ∙ place.owned)
+        (ap (λ (company : ℕ). booked_bill company point change c.bill ∷ []) (owner ∙ sym of_point_locality))
+        (ap (λ (company : ℕ). is_some (terms_of h company)) of_point_locality ∙ place.owned)
         (λ bill. ap is_some place.enrolled)
 
   bill_booked : (point : ℕ) (change : Change) (r : Result Charged Refusal) → billing book m.localities m.points point change.volume change.days ≡ r → BookedIn y ((call.Bill point change, grants (bill_of r) granted.Billed) ∷ h) (record { book = billed_by book point change.volume change.days r; localities = m.localities; points = written (billed_row (get_or m.points point no_point)) m.points point (bill_of r) })
   bill_booked point change (Err refusal) answer = refused y h m.entries m.localities m.points B (call.Bill point change) refusal
   bill_booked point change (Ok c) answer =
-      let granted = both_granted (billing_in y.tariff.figures m.companies m.localities m.points point change.volume change.days) (append_answer y.room m.entries) c answer in
+      let granted = both_granted (billing_in y.tariff.figures m.companies m.localities m.points point change.volume change.days) (append_answer y.capacity m.entries) c answer in
       let g = bill_granted y.tariff.figures m.companies m.localities m.points point change.volume change.days c granted in
       record { standing = bill_standing point change c g; adds = bill_adds point change c g; tells = bill_tells point change c g }
 
   -- ---- Any call
 
   pub booked_step : (c : Call) → BookedIn y ((c, answer_to y.filings (state_at y m) c) ∷ h) (after_call y.filings (state_at y m) c)
-  booked_step (call.Register company f) = register_booked company f (registered book company f)
+  booked_step (call.Register company f) = register_booked company f (register_answer book company f)
   booked_step (call.File place n) = file_booked place n (filing book m.localities place (filed_row y.filings n)) refl
   booked_step (call.Enrol point e) = enrol_booked point e (enrolling book m.localities m.points point e) refl
   booked_step (call.Bill point change) = bill_booked point change (billing book m.localities m.points point change.volume change.days) refl
   booked_step (call.Draw company) =
-      event_booked (call.Draw company) company (λ d. drawn_answer y.number company d.1) (record { entry = λ a. refl; files = λ i. refl; enrols = λ i. refl; registers = λ i. refl }) (drawing book company)
+      event_booked (call.Draw company) company (λ d. drawn_answer y.number company d.1) (record { entry = λ a. refl; files = λ i. refl; enrols = λ i. refl; registers = λ i. refl }) (draw_decision book company)
   booked_step (call.Cancel o) =
-      event_booked (call.Cancel o) o.company (λ d. granted.Cancelled) (record { entry = λ a. refl; files = λ i. refl; enrols = λ i. refl; registers = λ i. refl }) (cancelling book o)
+      event_booked (call.Cancel o) o.company (λ d. granted.Cancelled) (record { entry = λ a. refl; files = λ i. refl; enrols = λ i. refl; registers = λ i. refl }) (cancel_decision book o)
   booked_step (call.Send o) =
-      event_booked (call.Send o) o.company (λ d. granted.Sent) (record { entry = λ a. refl; files = λ i. refl; enrols = λ i. refl; registers = λ i. refl }) (sending book o)
-  booked_step (call.Confirm o) = confirm_booked o (confirming book o) refl
+      event_booked (call.Send o) o.company (λ d. granted.Sent) (record { entry = λ a. refl; files = λ i. refl; enrols = λ i. refl; registers = λ i. refl }) (send_decision book o)
+  booked_step (call.Confirm o) = confirm_booked o (confirm_decision book o) refl
   booked_step (call.Bounce o) =
-      event_booked (call.Bounce o) o.company (λ d. granted.Bounced) (record { entry = λ a. refl; files = λ i. refl; enrols = λ i. refl; registers = λ i. refl }) (bouncing book o)
-  booked_step (call.Close company) = close_booked company (closing book m.localities m.points company) refl
+      event_booked (call.Bounce o) o.company (λ d. granted.Bounced) (record { entry = λ a. refl; files = λ i. refl; enrols = λ i. refl; registers = λ i. refl }) (bounce_decision book o)
+  booked_step (call.Close company) = close_booked company (close_decision book m.localities m.points company) refl
   booked_step (call.Reopen company) =
-      event_booked (call.Reopen company) company (λ d. granted.Reopened) (record { entry = λ a. refl; files = λ i. refl; enrols = λ i. refl; registers = λ i. refl }) (reopening book company)
+      event_booked (call.Reopen company) company (λ d. granted.Reopened) (record { entry = λ a. refl; files = λ i. refl; enrols = λ i. refl; registers = λ i. refl }) (reopen_decision book company)
   booked_step (call.Ask q) =
       spoken y h m.entries m.localities m.points B (call.Ask q) (answer_to y.filings (state_at y m) (call.Ask q)) (record { entry = λ a. refl; files = λ i. refl; enrols = λ i. refl; registers = λ i. refl })

@@ -9,7 +9,7 @@ use Rattle.company.specs.declared.record.Event.{Event}
 use Rattle.company.specs.declared.record.Event.TheVariants as event
 use Rattle.company.specs.declared.record.Phase.TheVariants.{Closed}
 use Rattle.company.specs.declared.terms.Terms.{Terms}
-use Rattle.company.specs.Events.{moved as company_moved, new_company}
+use Rattle.company.specs.Events.{company_after, new_company}
 use Rattle.company.specs.Terms.{first_bad_term}
 use Rattle.company.specs.Made.{terms_if, terms_of as terms_made}
 use Rattle.company.proofs.Instalments.{none_paid}
@@ -18,9 +18,9 @@ use Rattle.orders.specs.declared.order.Order.{Order}
 use Rattle.orders.specs.Registers.{company_at}
 use Rattle.book.specs.declared.answer.Granted.TheVariants as granted
 use Rattle.book.specs.States.{BookState, with_company}
-use Rattle.book.specs.Companies.{registered, registered_by, decided, moved}
+use Rattle.book.specs.Companies.{register_answer, book_with_terms, decided, book_after_event}
 use Rattle.book.specs.Calls.{State, grants, drawn_answer}
-use Rattle.book.specs.Questions.{paid_out}
+use Rattle.opened.specs.Figures.{paid_out}
 use Rattle.units.proofs.Granted.{when_granted, same, within}
 use Rattle.orders.proofs.Events.{GrantedEvent}
 use Rattle.book.specs.Laws.{company_in}
@@ -46,21 +46,21 @@ module _ (y : Fixed) (h : History) (m : Moving) (T : Tied y h m) where
   with_book b = record { book = b; localities = m.localities; points = m.points }
 
   -- an event that pays nothing, and leaves the company open
-  event_step : (x : Told) (place : ℕ) (e : Event) (d : Company × ℕ) (g : GrantedEvent (company_in book.opened place) e d) (F : Bool → ℕ → Story) → ((i : ℕ) → story (x ∷ h) m.entries i ≡ F (eqb place i) i) → ((i : ℕ) → F false i ≡ story h m.entries i) → (HeldBy g.c (story h m.entries place) → HeldBy (company_moved g.c e (Ok d.1)) (F true place)) → ((company_moved g.c e (Ok d.1)).phase ≡ Closed → ⊥) → paid_out (Some (company_moved g.c e (Ok d.1))) ≡ paid_out (Some g.c) → ((i : ℕ) → filing_of y.filings (x ∷ h) i ≡ filing_of y.filings h i) → ((i : ℕ) → enrolment_of (x ∷ h) i ≡ enrolment_of h i) → Stands y (x ∷ h) (with_book (with_company book place d.0))
+  event_step : (x : Told) (place : ℕ) (e : Event) (d : Company × ℕ) (g : GrantedEvent (company_in book.opened place) e d) (F : Bool → ℕ → Story) → ((i : ℕ) → story (x ∷ h) m.entries i ≡ F (eqb place i) i) → ((i : ℕ) → F false i ≡ story h m.entries i) → (HeldBy g.c (story h m.entries place) → HeldBy (company_after g.c e (Ok d.1)) (F true place)) → ((company_after g.c e (Ok d.1)).phase ≡ Closed → ⊥) → paid_out (Some (company_after g.c e (Ok d.1))) ≡ paid_out (Some g.c) → ((i : ℕ) → filing_of y.filings (x ∷ h) i ≡ filing_of y.filings h i) → ((i : ℕ) → enrolment_of (x ∷ h) i ≡ enrolment_of h i) → Stands y (x ∷ h) (with_book (with_company book place d.0))
   event_step x place e d g F after others moves open_after pays filed enrolled =
       subst (λ (c : Company). Stands y (x ∷ h) (with_book (with_company book place c))) (sym g.after)
       (record {
-        m = record { companies = set m.companies place (Some (company_moved g.c e (Ok d.1))); entries = m.entries; localities = m.localities; points = m.points };
+        m = record { companies = set m.companies place (Some (company_after g.c e (Ok d.1))); entries = m.entries; localities = m.localities; points = m.points };
         is = refl;
         tied =
-            replaced y h m T x place (Some g.c) (company_moved g.c e (Ok d.1)) m.entries g.stood (within m.companies place g.c g.stood) F
+            replaced y h m T x place (Some g.c) (company_after g.c e (Ok d.1)) m.entries g.stood (within m.companies place g.c g.stood) F
             after others moves (λ closed. absurd (open_after closed)) (omega (arith, ints, pays)) (λ i. refl) (λ i. refl) filed enrolled;
       })
 
   refused_step : (x : Told) → Tied y (x ∷ h) m → Stands y (x ∷ h) (with_book book)
   refused_step x tied = record { m = m; is = refl; tied = tied }
 
-  pub draw_step : (company : ℕ) (r : Result (Company × ℕ) Refusal) → decided book y.number company event.Draw ≡ r → Stands y ((Draw company, grants r (λ d. drawn_answer y.number company d.1)) ∷ h) (with_book (moved book company r))
+  pub draw_step : (company : ℕ) (r : Result (Company × ℕ) Refusal) → decided book y.number company event.Draw ≡ r → Stands y ((Draw company, grants r (λ d. drawn_answer y.number company d.1)) ∷ h) (with_book (book_after_event book company r))
   draw_step company (Err refused) answer = refused_step _ (kept y h m T (Draw company) refused)
   draw_step company (Ok d) answer =
       let g = event_granted book.opened y.number company event.Draw d answer in
@@ -68,7 +68,7 @@ module _ (y : Fixed) (h : History) (m : Moving) (T : Tied y h m) where
       (λ (b : Bool) (i : ℕ). record (story h m.entries i) { drawn = cond b (1 + drawn h i) (drawn h i) })
       (λ i. refl) (λ i. refl) (λ held. draw_held g.c (story h m.entries company) held d.1 g.answer) (λ closed. cc) refl (λ i. refl) (λ i. refl)
 
-  pub cancel_step : (o : Order) (r : Result (Company × ℕ) Refusal) → decided book o.book o.company (event.Cancel o.instalment) ≡ r → Stands y ((Cancel o, grants r (λ d. granted.Cancelled)) ∷ h) (with_book (moved book o.company r))
+  pub cancel_step : (o : Order) (r : Result (Company × ℕ) Refusal) → decided book o.book o.company (event.Cancel o.instalment) ≡ r → Stands y ((Cancel o, grants r (λ d. granted.Cancelled)) ∷ h) (with_book (book_after_event book o.company r))
   cancel_step o (Err refused) answer = refused_step _ (kept y h m T (Cancel o) refused)
   cancel_step o (Ok d) answer =
       let g = event_granted book.opened o.book o.company (event.Cancel o.instalment) d answer in
@@ -76,14 +76,14 @@ module _ (y : Fixed) (h : History) (m : Moving) (T : Tied y h m) where
       (λ (b : Bool) (i : ℕ). record (story h m.entries i) { taken_back = cond b (1 + taken_back h i) (taken_back h i) })
       (λ i. refl) (λ i. refl) (λ held. cancel_held g.c (story h m.entries o.company) held o.instalment d.1 g.answer) (λ closed. cc) refl (λ i. refl) (λ i. refl)
 
-  pub send_step : (o : Order) (r : Result (Company × ℕ) Refusal) → decided book o.book o.company (event.Send o.instalment) ≡ r → Stands y ((Send o, grants r (λ d. granted.Sent)) ∷ h) (with_book (moved book o.company r))
+  pub send_step : (o : Order) (r : Result (Company × ℕ) Refusal) → decided book o.book o.company (event.Send o.instalment) ≡ r → Stands y ((Send o, grants r (λ d. granted.Sent)) ∷ h) (with_book (book_after_event book o.company r))
   send_step o (Err refused) answer = refused_step _ (kept y h m T (Send o) refused)
   send_step o (Ok d) answer =
       let g = event_granted book.opened o.book o.company (event.Send o.instalment) d answer in
       event_step (Send o, Ok granted.Sent) o.company (event.Send o.instalment) d g (λ (b : Bool) (i : ℕ). story h m.entries i)
       (λ i. refl) (λ i. refl) (λ held. send_held g.c (story h m.entries o.company) held o.instalment d.1 g.answer) (λ closed. cc) refl (λ i. refl) (λ i. refl)
 
-  pub bounce_step : (o : Order) (r : Result (Company × ℕ) Refusal) → decided book o.book o.company (event.Bounce o.instalment) ≡ r → Stands y ((Bounce o, grants r (λ d. granted.Bounced)) ∷ h) (with_book (moved book o.company r))
+  pub bounce_step : (o : Order) (r : Result (Company × ℕ) Refusal) → decided book o.book o.company (event.Bounce o.instalment) ≡ r → Stands y ((Bounce o, grants r (λ d. granted.Bounced)) ∷ h) (with_book (book_after_event book o.company r))
   bounce_step o (Err refused) answer = refused_step _ (kept y h m T (Bounce o) refused)
   bounce_step o (Ok d) answer =
       let g = event_granted book.opened o.book o.company (event.Bounce o.instalment) d answer in
@@ -91,7 +91,7 @@ module _ (y : Fixed) (h : History) (m : Moving) (T : Tied y h m) where
       (λ (b : Bool) (i : ℕ). record (story h m.entries i) { taken_back = cond b (1 + taken_back h i) (taken_back h i) })
       (λ i. refl) (λ i. refl) (λ held. bounce_held g.c (story h m.entries o.company) held o.instalment d.1 g.answer) (λ closed. cc) refl (λ i. refl) (λ i. refl)
 
-  pub reopen_step : (company : ℕ) (r : Result (Company × ℕ) Refusal) → decided book y.number company event.Reopen ≡ r → Stands y ((Reopen company, grants r (λ d. granted.Reopened)) ∷ h) (with_book (moved book company r))
+  pub reopen_step : (company : ℕ) (r : Result (Company × ℕ) Refusal) → decided book y.number company event.Reopen ≡ r → Stands y ((Reopen company, grants r (λ d. granted.Reopened)) ∷ h) (with_book (book_after_event book company r))
   reopen_step company (Err refused) answer = refused_step _ (kept y h m T (Reopen company) refused)
   reopen_step company (Ok d) answer =
       let g = event_granted book.opened y.number company event.Reopen d answer in
@@ -99,7 +99,7 @@ module _ (y : Fixed) (h : History) (m : Moving) (T : Tied y h m) where
       (λ (b : Bool) (i : ℕ). record (story h m.entries i) { closed = is_true (or_else (cond b (Some false) None) (latest (closes i) h)) })
       (λ i. refl) (λ i. refl) (λ held. reopen_held g.c (story h m.entries company) held d.1 g.answer) (λ closed. cc) refl (λ i. refl) (λ i. refl)
 
-  pub register_step : (company : ℕ) (f : TermsFigures) (r : Result Terms Refusal) → registered book company f ≡ r → Stands y ((Register company f, grants r (λ t. granted.Registered)) ∷ h) (with_book (registered_by book company r))
+  pub register_step : (company : ℕ) (f : TermsFigures) (r : Result Terms Refusal) → register_answer book company f ≡ r → Stands y ((Register company f, grants r (λ t. granted.Registered)) ∷ h) (with_book (book_with_terms book company r))
   register_step company f (Err refused) answer = refused_step _ (kept y h m T (Register company f) refused)
   register_step company f (Ok terms) answer =
       let in_table = when_granted (ltb company 16) _ _ _ terms answer in

@@ -8,7 +8,7 @@ use Rattle.tables.specs.declared.state.State.{State}
 use Rattle.tables.specs.declared.state.State.TheVariants.{Regime, StartUp}
 use Rattle.tables.specs.Filings.{locality_stands}
 use Rattle.tables.specs.PointRows.{point_stands}
-use Rattle.revenue.specs.Owners.{owns, seat, serves}
+use Rattle.revenue.specs.Owners.{owns, point_locality, serves}
 use Rattle.revenue.specs.Billed.{billed}
 use Rattle.revenue.specs.Served.{commercial_cents, served_for}
 use Rattle.revenue.specs.Recognised.{locality_figures, parts_at, total, recognised}
@@ -19,7 +19,7 @@ use Rattle.company.specs.declared.record.Phase.TheVariants.{Free, Drawn, Sent, C
 use Rattle.company.specs.Events.{while_open, act_answer, advances}
 use Rattle.orders.specs.Registers.{Companies, after_event}
 use Rattle.units.specs.Refusals.{refused_at}
-use Rattle.book.specs.Questions.{settlement, price_for}
+use Rattle.opened.specs.Figures.{settlement, price_for}
 use Rattle.units.proofs.Granted.{next_granted, at_granted}
 use Rattle.yearly.proofs.Ties.{Fixed, Settled}
 
@@ -57,8 +57,8 @@ owns_not l company other =
     (λ (blank : locality_stands l ≡ false). and_left (locality_stands l) (eqb l.company company) blank)
     (cases_Bool (locality_stands l))
 
-pub serves_not : (ls : List LocalityRow) (p : PointRow) (company : ℕ) → owns company (seat ls p) ≡ false → serves ls company p ≡ false
-serves_not ls p company foreign = and_right (point_stands p) (owns company (seat ls p)) foreign
+pub serves_not : (ls : List LocalityRow) (p : PointRow) (company : ℕ) → owns company (point_locality ls p) ≡ false → serves ls company p ≡ false
+serves_not ls p company foreign = and_right (point_stands p) (owns company (point_locality ls p)) foreign
 
 -- ---- What a settlement is made of
 

@@ -11,13 +11,13 @@ use Rattle.tables.specs.Blank.{no_point, past_table}
 use Rattle.tables.specs.Filings.{Odds, rows_fault, change_fault, odds_fault, fault_of, filing_fault, limit_fault, locality_stands}
 use Rattle.tables.specs.Lookups.{locality_at, point_at}
 use Rattle.tables.specs.PointRows.{point_stands}
-use Rattle.revenue.specs.Owners.{seat}
+use Rattle.revenue.specs.Owners.{point_locality}
 use Rattle.company.specs.declared.record.Event.TheVariants.{File, Enrol, Bill as BillEvent}
 use Rattle.calls.specs.declared.billing.Charged.{Charged}
 use Rattle.calls.specs.declared.enrolling.Enrolment.{Enrolment}
 use Rattle.orders.specs.Registers.{Companies, company_at, after_event}
 use Rattle.tables.specs.Lengths.{tables_fit}
-use Rattle.calls.specs.Decisions.{enrolled_within, filing, enrolling, seated, billing}
+use Rattle.calls.specs.Decisions.{enrolled_within, filing, enrolling, point_to_bill, billing}
 use Rattle.units.proofs.Granted.{when_granted, found_granted, next_granted, same}
 use Rattle.book.proofs.Bills.{standing_row}
 use Rattle.book.proofs.QuietLaws.{not_standing}
@@ -107,8 +107,8 @@ filing_granted companies localities place row filed granted =
 
 -- ---- A row that stands
 
-seat_is : (localities : List LocalityRow) (place : ℕ) (l : LocalityRow) → locality_at localities place ≡ Some l → (locality_stands (get_or localities place past_table) ≡ true) × (get_or localities place past_table ≡ l)
-seat_is localities place l stood = standing_row (locality_stands (get_or localities place past_table)) (get_or localities place past_table) l stood
+point_locality_is : (localities : List LocalityRow) (place : ℕ) (l : LocalityRow) → locality_at localities place ≡ Some l → (locality_stands (get_or localities place past_table) ≡ true) × (get_or localities place past_table ≡ l)
+point_locality_is localities place l stood = standing_row (locality_stands (get_or localities place past_table)) (get_or localities place past_table) l stood
 
 -- ---- Enrolling
 
@@ -130,8 +130,8 @@ enrolled_row e row granted =
 pub record Enrolled (companies : Companies) (localities : List LocalityRow) (points : List PointRow) (point : ℕ) (e : Enrolment) (row : PointRow) : Type 0 where
   pub within : point < length points
   pub blank : point_stands (get_or points point no_point) ≡ false
-  pub seated : e.locality < length localities
-  pub seat_stands : locality_stands (get_or localities e.locality past_table) ≡ true
+  pub in_table : e.locality < length localities
+  pub point_locality_stands : locality_stands (get_or localities e.locality past_table) ≡ true
   pub active : Active companies (get_or localities e.locality past_table).company
   pub is : row ≡ unbilled e
   pub stands : point_stands (unbilled e) ≡ true
@@ -147,17 +147,17 @@ enrolling_granted companies localities points point e row granted =
     let new = next_granted (enrolled_within e.locality e.class e.domestic) _ row free.1 in
     let open_company = next_granted (after_event company.0 locality.0.company Enrol) _ row new.2 in
     let found = get_or localities e.locality past_table in
-    let found_is = seat_is localities e.locality locality.0 locality.1 in
-    let seat : found.company ≡ locality.0.company = ap (λ (l : LocalityRow). l.company) found_is.1 in
+    let found_is = point_locality_is localities e.locality locality.0 locality.1 in
+    let point_locality : found.company ≡ locality.0.company = ap (λ (l : LocalityRow). l.company) found_is.1 in
     let row_is = enrolled_row e new.0 new.1 in
     let few = leb-true (length localities) 256 (and_parts (leb (length localities) 256) (leb (length points) 65536) fit.0).0 in
-    let seated = ltb-true e.locality (length localities) locality_in.0 in
+    let in_table = ltb-true e.locality (length localities) locality_in.0 in
     record {
       within = ltb-true _ _ point_in.0;
-      seated = seated;
-      seat_stands = found_is.0;
+      in_table = in_table;
+      point_locality_stands = found_is.0;
       blank = not_standing (point_stands (get_or points point no_point)) (get_or points point no_point) free.0;
-      active = subst (Active companies) (sym seat) (active_at companies locality.0.company company.0 Enrol open_company.0 company.1 refl open_company.1);
+      active = subst (Active companies) (sym point_locality) (active_at companies locality.0.company company.0 Enrol open_company.0 company.1 refl open_company.1);
       is = sym (same _ row open_company.2) ∙ row_is.0;
       stands = row_is.1 (omega arith);
     }
@@ -165,16 +165,16 @@ enrolling_granted companies localities points point e row granted =
 -- ---- A bill
 
 -- the company of a point that is billed is open
-pub billing_active : (t : TariffFigures) (companies : Companies) (localities : List LocalityRow) (points : List PointRow) (point : ℕ) (dv dd : ℤ) (c : Charged) → billing t companies localities points point dv dd ≡ Ok c → Active companies (seat localities (get_or points point no_point)).company
+pub billing_active : (t : TariffFigures) (companies : Companies) (localities : List LocalityRow) (points : List PointRow) (point : ℕ) (dv dd : ℤ) (c : Charged) → billing t companies localities points point dv dd ≡ Ok c → Active companies (point_locality localities (get_or points point no_point)).company
 billing_active t companies localities points point dv dd c granted =
     let old = get_or points point no_point in
-    let seating = next_granted (seated companies localities points point) _ c granted in
-    let fit = when_granted (tables_fit localities points) _ _ _ seating.0 seating.1 in
-    let point_in = when_granted (ltb point (length points)) _ _ _ seating.0 fit.1 in
-    let p = found_granted (point_at points point) _ _ seating.0 point_in.1 in
-    let l = found_granted (locality_at localities p.0.locality) _ _ seating.0 p.2 in
-    let company = found_granted (company_at companies l.0.company) _ _ seating.0 l.2 in
-    let open_company = next_granted (after_event company.0 l.0.company BillEvent) _ seating.0 company.2 in
+    let located = next_granted (point_to_bill companies localities points point) _ c granted in
+    let fit = when_granted (tables_fit localities points) _ _ _ located.0 located.1 in
+    let point_in = when_granted (ltb point (length points)) _ _ _ located.0 fit.1 in
+    let p = found_granted (point_at points point) _ _ located.0 point_in.1 in
+    let l = found_granted (locality_at localities p.0.locality) _ _ located.0 p.2 in
+    let company = found_granted (company_at companies l.0.company) _ _ located.0 l.2 in
+    let open_company = next_granted (after_event company.0 l.0.company BillEvent) _ located.0 company.2 in
     let row = (standing_row (point_stands old) old p.0 p.1).1 in
-    let seat : (seat localities old).company ≡ l.0.company = ap (λ (q : PointRow). (seat localities q).company) row ∙ ap (λ (x : LocalityRow). x.company) (seat_is localities p.0.locality l.0 l.1).1 in
-    subst (Active companies) (sym seat) (active_at companies l.0.company company.0 BillEvent open_company.0 company.1 refl open_company.1)
+    let point_locality : (point_locality localities old).company ≡ l.0.company = ap (λ (q : PointRow). (point_locality localities q).company) row ∙ ap (λ (x : LocalityRow). x.company) (point_locality_is localities p.0.locality l.0 l.1).1 in
+    subst (Active companies) (sym point_locality) (active_at companies l.0.company company.0 BillEvent open_company.0 company.1 refl open_company.1)

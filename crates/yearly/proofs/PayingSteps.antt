@@ -10,7 +10,7 @@ use Rattle.journal.specs.declared.entry.Entry.{Entry}
 use Rattle.journal.specs.Appending.{append_answer}
 use Rattle.company.specs.declared.record.Company.{Company}
 use Rattle.company.specs.declared.record.Event.TheVariants as event
-use Rattle.company.specs.Events.{act_answer, moved as company_moved}
+use Rattle.company.specs.Events.{act_answer, company_after}
 use Rattle.calls.specs.declared.call.Call.TheVariants.{Confirm, Close}
 use Rattle.orders.specs.declared.order.Order.{Order}
 use Rattle.orders.specs.Registers.{deciding}
@@ -18,12 +18,12 @@ use Rattle.tables.specs.Lengths.{tables_fit}
 use Rattle.book.specs.declared.answer.Granted.TheVariants as granted
 use Rattle.book.specs.States.{BookState}
 use Rattle.orders.specs.Payments.{amount_paid, advance_entry}
-use Rattle.book.specs.Companies.{decided, confirming, confirmed_by}
+use Rattle.book.specs.Companies.{decided, confirm_decision, confirmed_by}
 use Rattle.orders.specs.Orders.{settled}
-use Rattle.book.specs.Closings.{settling, closing, balance_of, closed_by, balance_entry}
+use Rattle.book.specs.Closings.{settling, close_decision, balance_of, closed_by, balance_entry}
 use Rattle.book.specs.Calls.{State, grants}
 use Rattle.book.specs.JournalSums.{Advanced, change_at, advance_in, advances_of, payment_in, payment_to, paid_to}
-use Rattle.book.specs.Questions.{settlement, price_for}
+use Rattle.opened.specs.Figures.{settlement, price_for}
 use Rattle.units.proofs.Granted.{when_granted, next_granted, both_granted, same, within}
 use Rattle.book.proofs.Events.{event_granted}
 use Rattle.book.proofs.Noting.{advances_push, no_change}
@@ -54,10 +54,10 @@ module _ (y : Fixed) (h : History) (m : Moving) (T : Tied y h m) where
   abbrev with_book : BookState → State
   with_book b = record { book = b; localities = m.localities; points = m.points }
 
-  confirmed_step : (o : Order) (k : ℕ) (c : Company) → get_or m.companies o.company None ≡ Some c → act_answer c (event.Confirm o.instalment) ≡ Ok k → Stands y ((Confirm o, Ok (granted.Paid (amount_paid (company_moved c (event.Confirm o.instalment) (Ok k), k)))) ∷ h) (with_book (confirmed_by book o.company (Ok (company_moved c (event.Confirm o.instalment) (Ok k), k))))
+  confirmed_step : (o : Order) (k : ℕ) (c : Company) → get_or m.companies o.company None ≡ Some c → act_answer c (event.Confirm o.instalment) ≡ Ok k → Stands y ((Confirm o, Ok (granted.Paid (amount_paid (company_after c (event.Confirm o.instalment) (Ok k), k)))) ∷ h) (with_book (confirmed_by book o.company (Ok (company_after c (event.Confirm o.instalment) (Ok k), k))))
   confirmed_step o k c stood answer =
       let place = o.company in
-      let new = company_moved c (event.Confirm o.instalment) (Ok k) in
+      let new = company_after c (event.Confirm o.instalment) (Ok k) in
       let cents = amount_paid (new, k) in
       let e = advance_entry place k cents in
       let x : Told = (Confirm o, Ok (granted.Paid cents)) in
@@ -76,16 +76,16 @@ module _ (y : Fixed) (h : History) (m : Moving) (T : Tied y h m) where
             (λ i. no_change m.entries place k cents (λ e. e.volume) i) (λ i. no_change m.entries place k cents (λ e. e.days) i) (λ i. refl) (λ i. refl);
       }
 
-  pub confirm_step : (o : Order) (r : Result (Company × ℕ) Refusal) → confirming book o ≡ r → Stands y ((Confirm o, grants r (λ d. granted.Paid (amount_paid d))) ∷ h) (with_book (confirmed_by book o.company r))
+  pub confirm_step : (o : Order) (r : Result (Company × ℕ) Refusal) → confirm_decision book o ≡ r → Stands y ((Confirm o, grants r (λ d. granted.Paid (amount_paid d))) ∷ h) (with_book (confirmed_by book o.company r))
   confirm_step o (Err refused) answer = record { m = m; is = refl; tied = kept y h m T (Confirm o) refused }
   confirm_step o (Ok d) answer =
-      let g = event_granted book.opened o.book o.company (event.Confirm o.instalment) d (both_granted (decided book o.book o.company (event.Confirm o.instalment)) (append_answer y.room m.entries) d answer) in
+      let g = event_granted book.opened o.book o.company (event.Confirm o.instalment) d (both_granted (decided book o.book o.company (event.Confirm o.instalment)) (append_answer y.capacity m.entries) d answer) in
       subst (λ (c : Company). Stands y ((Confirm o, Ok (granted.Paid (amount_paid (c, d.1)))) ∷ h) (with_book (confirmed_by book o.company (Ok (c, d.1)))))
       (sym g.after) (confirmed_step o d.1 g.c g.stood g.answer)
 
-  closed_step : (company k : ℕ) (c : Company) → get_or m.companies company None ≡ Some c → act_answer c event.Close ≡ Ok k → (d : Company × Cents) → d ≡ settling y.tariff.figures (price_for y.price c) m.localities m.points company (company_moved c event.Close (Ok k)) → Stands y ((Close company, Ok (granted.Closed d.1)) ∷ h) (with_book (closed_by book company (Ok d)))
+  closed_step : (company k : ℕ) (c : Company) → get_or m.companies company None ≡ Some c → act_answer c event.Close ≡ Ok k → (d : Company × Cents) → d ≡ settling y.tariff.figures (price_for y.price c) m.localities m.points company (company_after c event.Close (Ok k)) → Stands y ((Close company, Ok (granted.Closed d.1)) ∷ h) (with_book (closed_by book company (Ok d)))
   closed_step company k c stood answer d is =
-      let moved = company_moved c event.Close (Ok k) in
+      let moved = company_after c event.Close (Ok k) in
       let z = settlement y.tariff.figures (price_for y.price c) m.localities m.points company moved in
       let new = settled moved z in
       let cents : Cents = record { 0 = z -ℤ c.balances } in
@@ -105,10 +105,10 @@ module _ (y : Fixed) (h : History) (m : Moving) (T : Tied y h m) where
             (no_more m.entries company cents (λ e. e.volume)) (no_more m.entries company cents (λ e. e.days)) (λ i. refl) (λ i. refl);
       })
 
-  pub close_step : (company : ℕ) (r : Result (Company × Cents) Refusal) → closing book m.localities m.points company ≡ r → Stands y ((Close company, grants (balance_of r) granted.Closed) ∷ h) (with_book (closed_by book company r))
+  pub close_step : (company : ℕ) (r : Result (Company × Cents) Refusal) → close_decision book m.localities m.points company ≡ r → Stands y ((Close company, grants (balance_of r) granted.Closed) ∷ h) (with_book (closed_by book company r))
   close_step company (Err refused) answer = record { m = m; is = refl; tied = kept y h m T (Close company) refused }
   close_step company (Ok d) answer =
-      let decision = both_granted _ (append_answer y.room m.entries) d answer in
+      let decision = both_granted _ (append_answer y.capacity m.entries) d answer in
       let fit = when_granted (tables_fit m.localities m.points) _ _ _ d decision in
       let q = next_granted (deciding m.companies y.number y.number company event.Close) _ d fit.1 in
       let g = event_granted book.opened y.number company event.Close q.0 q.1 in

@@ -48,8 +48,8 @@ year_at y h s =
       tariff = y.tariff.figures;
       sum = y.sum;
       price = y.price;
-      places = y.places;
-      seats = y.seats;
+      point_places = y.point_places;
+      locality_places = y.locality_places;
       filings = y.filings;
       history = h;
       journal = s.book.entries;
@@ -61,10 +61,10 @@ module _ (y : Fixed) (h : History) (m : Moving) (T : Tied y h m) (B : Booked y h
 
   -- the tables by history and journal are the lent ones
   points_are : m.points ≡ points year
-  points_are = fill_by_all (point year) m.points y.places no_point T.places (λ k within. (T.points k).is)
+  points_are = fill_by_all (point year) m.points y.point_places no_point T.point_places (λ k within. (T.points k).is)
 
   localities_are : m.localities ≡ localities year
-  localities_are = fill_by_all (locality year) m.localities y.seats no_locality T.seats (λ k within. T.localities k)
+  localities_are = fill_by_all (locality year) m.localities y.locality_places no_locality T.locality_places (λ k within. T.localities k)
 
   -- ---- What was charged
 
@@ -82,8 +82,8 @@ module _ (y : Fixed) (h : History) (m : Moving) (T : Tied y h m) (B : Booked y h
   abbrev ToTheCent : (company : ℕ) (f : TermsFigures) → List LocalityRow → List PointRow → Type 0
   ToTheCent company f ls ps = pos (billed_in y.tariff.figures ls ps company) +ℤ paid_to m.entries company ≡ pos (recognised_revenue y.tariff.figures (price_of year f) f.verification f.central ls ps company)
 
-  closing : (company : ℕ) (f : TermsFigures) → ToTheCent company f (localities year) (points year) → ClosingRule year company f
-  closing company f cents =
+  close_decision : (company : ℕ) (f : TermsFigures) → ToTheCent company f (localities year) (points year) → ClosingRule year company f
+  close_decision company f cents =
       let t = y.tariff.figures in
       let ls = localities year in
       let ps = points year in
@@ -104,7 +104,7 @@ module _ (y : Fixed) (h : History) (m : Moving) (T : Tied y h m) (B : Booked y h
       let same : c.terms.figures ≡ f = cc in
       let balances = settled (phase_closed c.phase (sym held.closed ∙ closed)) in
       let lent : ToTheCent company c.terms.figures m.localities m.points = omega (arith, ints, held.paid, balances) in
-      closing company f
+      close_decision company f
       (subst (λ (ps : List PointRow). ToTheCent company f (localities year) ps) points_are
       (subst (λ (ls : List LocalityRow). ToTheCent company f ls m.points) localities_are
       (subst (λ (g : TermsFigures). ToTheCent company g m.localities m.points) same lent)))
@@ -144,7 +144,7 @@ module _ (y : Fixed) (h : History) (m : Moving) (T : Tied y h m) (B : Booked y h
       record {
         points = λ place e is.
             let s = B.standing.points place e is in
-            record { within = s.within; stands = ap point_stands (sym (T.points place).is) ∙ s.stands; seated = s.seated };
+            record { within = s.within; stands = ap point_stands (sym (T.points place).is) ∙ s.stands; filed = s.filed };
         localities = λ place row is.
             let f = B.standing.localities place row is in
             record { within = f.within; stands = f.stands; owned = f.owned };
@@ -171,7 +171,7 @@ module _ (y : Fixed) (h : History) (m : Moving) (T : Tied y h m) (B : Booked y h
   rules : YearRules year (account_in (state_at y m).book.opened m.points)
   rules =
       record {
-        closing = λ company f. closing_at company (get_or m.companies company None) (T.companies company) (T.settled company) f;
+        close_decision = λ company f. closing_at company (get_or m.companies company None) (T.companies company) (T.settled company) f;
         registered = λ company. not_closed company (get_or m.companies company None) (T.companies company);
         account = account_rule;
         advance = λ company f. advance_at company (get_or m.companies company None) (T.companies company) f;
@@ -185,14 +185,14 @@ module _ (y : Fixed) (h : History) (m : Moving) (T : Tied y h m) (B : Booked y h
       }
 
   -- the account that the book tells
-  account_told : leb y.places 65536 ≡ true → account (state_at y m).book m.points ≡ Ok (record { 0 = account_in (state_at y m).book.opened m.points })
-  account_told few = cond-true (leb (length m.points) 65536) _ _ (ap (λ (n : ℕ). leb n 65536) T.places ∙ few)
+  account_told : leb y.point_places 65536 ≡ true → account (state_at y m).book m.points ≡ Ok (record { 0 = account_in (state_at y m).book.opened m.points })
+  account_told few = cond-true (leb (length m.points) 65536) _ _ (ap (λ (n : ℕ). leb n 65536) T.point_places ∙ few)
 
 -- the rules hold in a state that is tied to a history
 abbrev pub Ordered : Fixed → History → State → Type 0
 Ordered y h s = (told : Cents) × (account s.book s.points ≡ Ok told) × YearRules (year_at y h s) told.0
 
-pub rules_stand : (y : Fixed) (h : History) (s : State) → leb y.places 65536 ≡ true → Stands y h s → BookedIn y h s → Ordered y h s
+pub rules_stand : (y : Fixed) (h : History) (s : State) → leb y.point_places 65536 ≡ true → Stands y h s → BookedIn y h s → Ordered y h s
 rules_stand y h s few stands booked =
     let m = stands.m in
     let b : BookedIn y h (state_at y m) = subst (BookedIn y h) stands.is booked in

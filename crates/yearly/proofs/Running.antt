@@ -14,14 +14,14 @@ use Rattle.calls.specs.declared.call.Call.TheVariants.{Register, File, Enrol, Bi
 use Rattle.tables.specs.Lengths.{tables_fit}
 use Rattle.book.specs.declared.answer.Granted.{Granted}
 use Rattle.book.specs.States.{BookState}
-use Rattle.book.specs.Companies.{registered, drawing, cancelling, sending, confirming, bouncing}
+use Rattle.book.specs.Companies.{register_answer, draw_decision, cancel_decision, send_decision, confirm_decision, bounce_decision}
 use Rattle.book.specs.Rows.{filing, enrolling, billing}
-use Rattle.book.specs.Closings.{closing, reopening}
+use Rattle.book.specs.Closings.{close_decision, reopen_decision}
 use Rattle.book.specs.Openings.{unused, opening, opened_by, blanked}
-use Rattle.book.specs.Calls.{State, filed_row, answer_to, after_call}
+use Rattle.book.specs.Calls.{State, filed_row, answer_to, after_call, with_tables}
 use Rattle.units.proofs.Granted.{when_granted, next_granted}
 use Rattle.yearly.specs.Histories.{History}
-use Rattle.yearly.specs.Runs.{standing, begun, run_answers, run_after, history_after, AlwaysInOrder}
+use Rattle.yearly.specs.Runs.{begun, run_answers, run_after, history_after, AlwaysInOrder}
 use Rattle.yearly.proofs.Writing.{blank_at}
 use Rattle.yearly.proofs.Stories.{Held, Untold}
 use Rattle.yearly.proofs.Ties.{Fixed, Moving, book_at, state_at, story, Settled, PointTied, Tied, Stands, asked}
@@ -35,17 +35,17 @@ use Rattle.yearly.proofs.Rules.{rules_stand}
 
 -- ---- One call
 tied_step : (y : Fixed) (h : History) (m : Moving) → Tied y h m → (c : Call) → Stands y ((c, answer_to y.filings (state_at y m) c) ∷ h) (after_call y.filings (state_at y m) c)
-tied_step y h m T (Register company f) = register_step y h m T company f (registered (book_at y m.companies m.entries) company f) refl
+tied_step y h m T (Register company f) = register_step y h m T company f (register_answer (book_at y m.companies m.entries) company f) refl
 tied_step y h m T (File place n) = file_step y h m T place n (filing (book_at y m.companies m.entries) m.localities place (filed_row y.filings n)) refl
 tied_step y h m T (Enrol point e) = enrol_step y h m T point e (enrolling (book_at y m.companies m.entries) m.localities m.points point e) refl
 tied_step y h m T (Bill point change) = bill_step y h m T point change (billing (book_at y m.companies m.entries) m.localities m.points point change.volume change.days) refl
-tied_step y h m T (Draw company) = draw_step y h m T company (drawing (book_at y m.companies m.entries) company) refl
-tied_step y h m T (Cancel o) = cancel_step y h m T o (cancelling (book_at y m.companies m.entries) o) refl
-tied_step y h m T (Send o) = send_step y h m T o (sending (book_at y m.companies m.entries) o) refl
-tied_step y h m T (Confirm o) = confirm_step y h m T o (confirming (book_at y m.companies m.entries) o) refl
-tied_step y h m T (Bounce o) = bounce_step y h m T o (bouncing (book_at y m.companies m.entries) o) refl
-tied_step y h m T (Close company) = close_step y h m T company (closing (book_at y m.companies m.entries) m.localities m.points company) refl
-tied_step y h m T (Reopen company) = reopen_step y h m T company (reopening (book_at y m.companies m.entries) company) refl
+tied_step y h m T (Draw company) = draw_step y h m T company (draw_decision (book_at y m.companies m.entries) company) refl
+tied_step y h m T (Cancel o) = cancel_step y h m T o (cancel_decision (book_at y m.companies m.entries) o) refl
+tied_step y h m T (Send o) = send_step y h m T o (send_decision (book_at y m.companies m.entries) o) refl
+tied_step y h m T (Confirm o) = confirm_step y h m T o (confirm_decision (book_at y m.companies m.entries) o) refl
+tied_step y h m T (Bounce o) = bounce_step y h m T o (bounce_decision (book_at y m.companies m.entries) o) refl
+tied_step y h m T (Close company) = close_step y h m T company (close_decision (book_at y m.companies m.entries) m.localities m.points company) refl
+tied_step y h m T (Reopen company) = reopen_step y h m T company (reopen_decision (book_at y m.companies m.entries) company) refl
 tied_step y h m T (Ask q) = record { m = m; is = refl; tied = asked y h m T q (answer_to y.filings (state_at y m) (Ask q)) }
 
 -- a state that is tied to a history, with the entries that it tells
@@ -85,11 +85,11 @@ module _ (b : BookState) (tariff : Tariff) (number : ℕ) (sum : ℤ) (filings l
         tariff = tariff;
         number = number;
         sum = sum;
-        room = b.room;
+        capacity = b.capacity;
         price = b.price;
         filings = filings;
-        seats = length (replicate (length localities) no_locality);
-        places = length (replicate (length points) no_point);
+        locality_places = length (replicate (length localities) no_locality);
+        point_places = length (replicate (length points) no_point);
       }
 
   abbrev blank_moving : List Entry → Moving
@@ -100,8 +100,8 @@ module _ (b : BookState) (tariff : Tariff) (number : ℕ) (sum : ℤ) (filings l
   begun_tied =
       record {
         long = refl;
-        seats = refl;
-        places = refl;
+        locality_places = refl;
+        point_places = refl;
         companies = λ i. subst (λ (slot : Option Company). Held slot (story [] [] i)) (sym (blank_at 16 i None)) (nothing_told i);
         localities = λ i. blank_at (length localities) i no_locality;
         points = λ i. subst (λ (p : PointRow). PointTied p None (pos 0) (pos 0)) (sym (blank_at (length points) i no_point)) blank_tied;
@@ -140,10 +140,10 @@ module _ (b : BookState) (tariff : Tariff) (number : ℕ) (sum : ℤ) (filings l
       rules_stand year_fixed _ _ few after.stands after.booked
 
   -- the same for what an opening left, and for answers that a run wrote
-  pub ran_in_order : (result : Result (Unit {0}) Refusal) (z : ℤ) (after : BookState) (localities' : List LocalityRow) (points' : List PointRow) (calls : List Call) (answers more : List (Result Granted Refusal)) → result ≡ Ok tt → z ≡ sum → result ≡ opening b number z localities points → after ≡ opened_by b tariff number z result → localities' ≡ blanked no_locality localities result → points' ≡ blanked no_point points result → answers ≡ run_answers filings (standing after localities' points') calls ++ more → AlwaysInOrder tariff sum filings (begun b tariff number sum localities points) calls answers
+  pub ran_in_order : (result : Result (Unit {0}) Refusal) (z : ℤ) (after : BookState) (localities' : List LocalityRow) (points' : List PointRow) (calls : List Call) (answers more : List (Result Granted Refusal)) → result ≡ Ok tt → z ≡ sum → result ≡ opening b number z localities points → after ≡ opened_by b tariff number z result → localities' ≡ blanked no_locality localities result → points' ≡ blanked no_point points result → answers ≡ run_answers filings (with_tables after localities' points') calls ++ more → AlwaysInOrder tariff sum filings (begun b tariff number sum localities points) calls answers
   ran_in_order result z after localities' points' calls answers more granted same answer opened localities_are points_are wrote =
       let grants : opening b number sum localities points ≡ Ok tt = ap (λ (w : ℤ). opening b number w localities points) (sym same) ∙ sym answer ∙ granted in
-      let left : standing after localities' points' ≡ begun b tariff number sum localities points =
-      λ i. standing ((opened ∙ (λ j. opened_by b tariff number (same j) (granted j))) i) ((localities_are ∙ ap (blanked no_locality localities) granted) i) ((points_are ∙ ap (blanked no_point points) granted) i) in
+      let left : with_tables after localities' points' ≡ begun b tariff number sum localities points =
+      λ i. with_tables ((opened ∙ (λ j. opened_by b tariff number (same j) (granted j))) i) ((localities_are ∙ ap (blanked no_locality localities) granted) i) ((points_are ∙ ap (blanked no_point points) granted) i) in
       let wrote_begun = wrote ∙ ap (λ (s : State). run_answers filings s calls ++ more) left in
       subst (AlwaysInOrder tariff sum filings (begun b tariff number sum localities points) calls) (sym wrote_begun) (always_in_order grants calls more)

@@ -12,13 +12,13 @@ use Rattle.company.specs.declared.record.Event.TheVariants.{Draw, Cancel, Send, 
 use Rattle.company.specs.declared.record.Phase.{Phase}
 use Rattle.company.specs.declared.record.Phase.TheVariants.{Free, Drawn, Sent, Closed}
 use Rattle.company.specs.declared.terms.Terms.{Terms}
-use Rattle.company.specs.Events.{act_answer, moved, draw_answer, reopen_answer, new_company}
+use Rattle.company.specs.Events.{act_answer, company_after, draw_answer, reopen_answer, new_company}
 use Rattle.company.specs.Instalments.{paid_up_to, instalment}
 use Rattle.company.proofs.Instalments.{none_paid}
 use Rattle.orders.specs.Orders.{settled}
 use Rattle.book.specs.JournalSums.{Advanced}
 use Rattle.orders.specs.Laws.{outs}
-use Rattle.book.specs.Questions.{paid_out}
+use Rattle.opened.specs.Figures.{paid_out}
 use Rattle.book.proofs.CloseLaw.{close_free}
 use Rattle.orders.proofs.OrderLaws.{order_laws}
 use Rattle.yearly.specs.YearRules.{instalments}
@@ -113,7 +113,7 @@ module _ (c : Company) (t : Story) (held : HeldBy c t) where
   next_at : (p : Phase) → c.phase ≡ p → Next p c.paid c.terms.figures.instalments
   next_at p at = subst (λ (q : Phase). Next q c.paid c.terms.figures.instalments) at held.next
 
-  pub draw_held : (k : ℕ) → act_answer c Draw ≡ Ok k → HeldBy (moved c Draw (Ok k)) (record t { drawn = 1 + t.drawn })
+  pub draw_held : (k : ℕ) → act_answer c Draw ≡ Ok k → HeldBy (company_after c Draw (Ok k)) (record t { drawn = 1 + t.drawn })
   draw_held k granted =
       let free = draw_free c.phase c.paid c.terms.figures.instalments k granted in
       let none = ap outs free.0 in
@@ -128,7 +128,7 @@ module _ (c : Company) (t : Story) (held : HeldBy c t) where
         closed = held.closed ∙ ap is_closed free.0;
       }
 
-  pub cancel_held : (j k : ℕ) → act_answer c (Cancel j) ≡ Ok k → HeldBy (moved c (Cancel j) (Ok k)) (record t { taken_back = 1 + t.taken_back })
+  pub cancel_held : (j k : ℕ) → act_answer c (Cancel j) ≡ Ok k → HeldBy (company_after c (Cancel j) (Ok k)) (record t { taken_back = 1 + t.taken_back })
   cancel_held j k granted =
       let out = (order_laws.cancelled c j k granted).1 in
       let one = ap outs out in
@@ -143,7 +143,7 @@ module _ (c : Company) (t : Story) (held : HeldBy c t) where
         closed = held.closed ∙ ap is_closed out;
       }
 
-  pub send_held : (j k : ℕ) → act_answer c (Send j) ≡ Ok k → HeldBy (moved c (Send j) (Ok k)) t
+  pub send_held : (j k : ℕ) → act_answer c (Send j) ≡ Ok k → HeldBy (company_after c (Send j) (Ok k)) t
   send_held j k granted =
       let out = (order_laws.sent c j k granted).1 in
       let one = ap outs out in
@@ -158,7 +158,7 @@ module _ (c : Company) (t : Story) (held : HeldBy c t) where
         closed = held.closed ∙ ap is_closed out;
       }
 
-  pub bounce_held : (j k : ℕ) → act_answer c (Bounce j) ≡ Ok k → HeldBy (moved c (Bounce j) (Ok k)) (record t { taken_back = 1 + t.taken_back })
+  pub bounce_held : (j k : ℕ) → act_answer c (Bounce j) ≡ Ok k → HeldBy (company_after c (Bounce j) (Ok k)) (record t { taken_back = 1 + t.taken_back })
   bounce_held j k granted =
       let out = (order_laws.bounced c j k granted).1 in
       let one = ap outs out in
@@ -180,14 +180,14 @@ module _ (c : Company) (t : Story) (held : HeldBy c t) where
   abbrev pub amount : ℕ → ℤ
   amount k = instalment c.terms.figures.advance c.terms.figures.instalments k
 
-  pub paid_more : (j k : ℕ) → act_answer c (Confirm j) ≡ Ok k → paid_out (Some (moved c (Confirm j) (Ok k))) ≡ paid_out (Some c) +ℤ amount k
+  pub paid_more : (j k : ℕ) → act_answer c (Confirm j) ≡ Ok k → paid_out (Some (company_after c (Confirm j) (Ok k))) ≡ paid_out (Some c) +ℤ amount k
   paid_more j k granted =
       let next = (confirm_next j k granted).0 in
       let before : k - 1 ≡ c.paid = omega arith in
       let old = ap (paid_up_to c.terms.figures.advance c.terms.figures.instalments) before in
       omega (arith, ints)
 
-  pub confirm_held : (j k : ℕ) → act_answer c (Confirm j) ≡ Ok k → HeldBy (moved c (Confirm j) (Ok k)) (record t { advances = t.advances ++ (k, record { 0 = amount k }) ∷ []; paid = t.paid +ℤ amount k; confirmed = 1 + t.confirmed; taken_back = 1 + t.taken_back })
+  pub confirm_held : (j k : ℕ) → act_answer c (Confirm j) ≡ Ok k → HeldBy (company_after c (Confirm j) (Ok k)) (record t { advances = t.advances ++ (k, record { 0 = amount k }) ∷ []; paid = t.paid +ℤ amount k; confirmed = 1 + t.confirmed; taken_back = 1 + t.taken_back })
   confirm_held j k granted =
       let out = (order_laws.confirmed c j k granted).1 in
       let one = ap outs out in
@@ -210,7 +210,7 @@ module _ (c : Company) (t : Story) (held : HeldBy c t) where
       }
 
   -- closing brings the balances to z
-  pub close_held : (k : ℕ) (z : ℤ) → act_answer c Close ≡ Ok k → HeldBy (settled (moved c Close (Ok k)) z) (record t { advances = t.advances ++ []; paid = t.paid +ℤ (z -ℤ c.balances); closed = true })
+  pub close_held : (k : ℕ) (z : ℤ) → act_answer c Close ≡ Ok k → HeldBy (settled (company_after c Close (Ok k)) z) (record t { advances = t.advances ++ []; paid = t.paid +ℤ (z -ℤ c.balances); closed = true })
   close_held k z granted =
       let free = close_free c.phase k granted in
       let none = ap outs free in
@@ -225,7 +225,7 @@ module _ (c : Company) (t : Story) (held : HeldBy c t) where
         closed = refl;
       }
 
-  pub reopen_held : (k : ℕ) → act_answer c Reopen ≡ Ok k → HeldBy (moved c Reopen (Ok k)) (record t { closed = false })
+  pub reopen_held : (k : ℕ) → act_answer c Reopen ≡ Ok k → HeldBy (company_after c Reopen (Ok k)) (record t { closed = false })
   reopen_held k granted =
       let closed = reopen_closed c.phase k granted in
       let none = ap outs closed in

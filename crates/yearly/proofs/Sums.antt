@@ -16,7 +16,7 @@ use Rattle.tables.specs.declared.rows.PointRow.{PointRow}
 use Rattle.tables.specs.Blank.{no_point, no_point_blank, past_table}
 use Rattle.tables.specs.Filings.{locality_stands}
 use Rattle.tables.specs.PointRows.{point_stands}
-use Rattle.revenue.specs.Owners.{owns, seat, serves}
+use Rattle.revenue.specs.Owners.{owns, point_locality, serves}
 use Rattle.revenue.specs.Billed.{point_tariff, billed}
 use Rattle.revenue.specs.Gs.{point_gs, gs_due}
 use Rattle.revenue.specs.Ug1.{point_ug1, ug1_due}
@@ -50,13 +50,13 @@ module _ (t : TariffFigures) (company : ℕ) (ls : List LocalityRow) (place : �
       λ z. cond (point_stands p && ((stands ∙ sym stood) z && eqb (sym kept.company z) company)) (tariff_part (amounts_at t (sym kept.area z) p.class (eqb p.domestic 1) p.volume p.days)) 0
 
   -- so a point whose locality stood is charged as before
-  share_same : (p : PointRow) → locality_stands (seat ls p) ≡ true → share t company (seat (set ls place row) p) p ≡ share t company (seat ls p) p
-  share_same p seated =
+  share_same : (p : PointRow) → locality_stands (point_locality ls p) ≡ true → share t company (point_locality (set ls place row) p) p ≡ share t company (point_locality ls p) p
+  share_same p standing =
       ⊎_elim
       (λ (here : p.locality ≡ place).
       ap (λ (n : ℕ). share t company (get_or (set ls place row) n past_table) p) here
       ∙ ap (λ (l : LocalityRow). share t company l p) (get_or-set_same ls place row past_table within)
-      ∙ share_refiled p (ap (λ (n : ℕ). locality_stands (get_or ls n past_table)) (sym here) ∙ seated)
+      ∙ share_refiled p (ap (λ (n : ℕ). locality_stands (get_or ls n past_table)) (sym here) ∙ standing)
       ∙ ap (λ (n : ℕ). share t company (get_or ls n past_table) p) (sym here))
       (λ elsewhere. ap (λ (l : LocalityRow). share t company l p) (get_or-set_other ls place p.locality row past_table elsewhere))
       (cases_eq p.locality place)
@@ -64,15 +64,15 @@ module _ (t : TariffFigures) (company : ℕ) (ls : List LocalityRow) (place : �
   blank_share : (p : PointRow) (l : LocalityRow) → point_stands p ≡ false → share t company l p ≡ 0
   blank_share p l blank = cond-false (point_stands p && owns company l) (point_tariff t l p) 0 (ap (λ (b : Bool). b && owns company l) blank)
 
-  pub refiled_billed : (ps : List PointRow) → ((i : ℕ) → point_stands (get_or ps i no_point) ≡ true → locality_stands (seat ls (get_or ps i no_point)) ≡ true) → billed t (set ls place row) ps company ≡ billed t ls ps company
+  pub refiled_billed : (ps : List PointRow) → ((i : ℕ) → point_stands (get_or ps i no_point) ≡ true → locality_stands (point_locality ls (get_or ps i no_point)) ≡ true) → billed t (set ls place row) ps company ≡ billed t ls ps company
   unfolding billed
-  refiled_billed ps seated =
-      sum_n_at (λ p. share t company (seat (set ls place row) p) p) (λ p. share t company (seat ls p) p) no_point ps
+  refiled_billed ps standing =
+      sum_n_at (λ p. share t company (point_locality (set ls place row) p) p) (λ p. share t company (point_locality ls p) p) no_point ps
       (λ i.
       let p = get_or ps i no_point in
       ⊎_elim
-      (λ (stood : point_stands p ≡ true). share_same p (seated i stood))
-      (λ (blank : point_stands p ≡ false). blank_share p (seat (set ls place row) p) blank ∙ sym (blank_share p (seat ls p) blank))
+      (λ (stood : point_stands p ≡ true). share_same p (standing i stood))
+      (λ (blank : point_stands p ≡ false). blank_share p (point_locality (set ls place row) p) blank ∙ sym (blank_share p (point_locality ls p) blank))
       (cases_Bool (point_stands p)))
 
 -- ---- A point of which nothing is billed
@@ -113,8 +113,8 @@ gs_set t ps i new d within = sum_n_set (λ p. cond (point_stands p) (point_gs t 
 pub none_billed : (t : TariffFigures) (ls : List LocalityRow) (n company : ℕ) → billed t ls (replicate n no_point) company ≡ 0
 unfolding billed
 none_billed t ls n company =
-    sum_n_blank (λ p. cond (serves ls company p) (point_tariff t (seat ls p) p) 0) n no_point
-    (cond-false (serves ls company no_point) _ 0 (ap (λ (b : Bool). b && owns company (seat ls no_point)) no_point_blank))
+    sum_n_blank (λ p. cond (serves ls company p) (point_tariff t (point_locality ls p) p) 0) n no_point
+    (cond-false (serves ls company no_point) _ 0 (ap (λ (b : Bool). b && owns company (point_locality ls no_point)) no_point_blank))
 
 pub none_gs_due : (t : TariffFigures) (n : ℕ) → gs_due t (replicate n no_point) ≡ 0
 unfolding gs_due

@@ -10,8 +10,8 @@ use Rattle.tariff.specs.declared.supply.Change.{Change}
 use Rattle.tables.specs.declared.rows.LocalityRow.{LocalityRow}
 use Rattle.tables.specs.declared.rows.PointRow.{PointRow}
 use Rattle.tables.specs.Blank.{no_locality, no_point, no_point_blank, past_table}
-use Rattle.tables.specs.PointRows.{point_stands}
-use Rattle.revenue.specs.Owners.{owns, seat, serves}
+use Rattle.tables.specs.PointRows.{point_stands, billed_row}
+use Rattle.revenue.specs.Owners.{owns, point_locality, serves}
 use Rattle.revenue.proofs.Replacing.{billed_foreign, commercial_foreign, localities_foreign, billed_refiled, commercial_refiled}
 use Rattle.calls.specs.declared.billing.Charged.{Charged}
 use Rattle.calls.specs.declared.call.Call.TheVariants as call
@@ -19,7 +19,7 @@ use Rattle.calls.specs.declared.enrolling.Enrolment.{Enrolment}
 use Rattle.calls.specs.Decisions.{billing as billing_in}
 use Rattle.book.specs.declared.answer.Granted.TheVariants as granted
 use Rattle.book.specs.States.{BookState}
-use Rattle.book.specs.Tables.{written, billed_row}
+use Rattle.book.specs.Tables.{written}
 use Rattle.book.specs.Rows.{filing, enrolling, billing, bill_of, billed_by, bill_entry}
 use Rattle.book.specs.Calls.{grants, filed_row}
 use Rattle.book.specs.JournalSums.{Advanced, payment_to, journal_volume, journal_days, paid_to}
@@ -59,8 +59,8 @@ module _ (y : Fixed) (h : History) (m : Moving) (T : Tied y h m) where
       let told : Bool → ℕ → LocalityRow = λ b i. locality_in (or_else (cond b (Some row) None) (filing_of y.filings h i)) in
       record {
         long = T.long;
-        seats = length-set m.localities place row ∙ T.seats;
-        places = T.places;
+        locality_places = length-set m.localities place row ∙ T.locality_places;
+        point_places = T.point_places;
         companies = T.companies;
         localities =
             each_after_set (λ (i : ℕ) (l : LocalityRow). l ≡ told (eqb place i) i) m.localities place row no_locality g.within
@@ -121,8 +121,8 @@ module _ (y : Fixed) (h : History) (m : Moving) (T : Tied y h m) where
         let owner = (get_or m.localities e.locality past_table).company in
         record {
           long = T.long;
-          seats = T.seats;
-          places = length-set m.points point new_row ∙ T.places;
+          locality_places = T.locality_places;
+          point_places = length-set m.points point new_row ∙ T.point_places;
           companies = T.companies;
           localities = T.localities;
           points =
@@ -132,8 +132,8 @@ module _ (y : Fixed) (h : History) (m : Moving) (T : Tied y h m) where
           settled = λ i.
               settled_same y m.localities m.localities m.points (set m.points point new_row) i (get_or m.companies i None)
               (λ c stood closed.
-              point_sums point new_row i (and_left (point_stands (get_or m.points point no_point)) (owns i (seat m.localities (get_or m.points point no_point))) g.blank)
-              (serves_not m.localities new_row i (owns_not (seat m.localities new_row) i (λ stands. another m.companies owner g.active i c stood closed))))
+              point_sums point new_row i (and_left (point_stands (get_or m.points point no_point)) (owns i (point_locality m.localities (get_or m.points point no_point))) g.blank)
+              (serves_not m.localities new_row i (owns_not (point_locality m.localities new_row) i (λ stands. another m.companies owner g.active i c stood closed))))
               (T.settled i);
           spent = T.spent;
         }
@@ -150,7 +150,7 @@ module _ (y : Fixed) (h : History) (m : Moving) (T : Tied y h m) where
 
   -- ---- Billing
 
-  module _ (point : ℕ) (change : Change) (c : Charged) (g : GrantedBill y.tariff.figures m.localities m.points point change.volume change.days c) (active : Active m.companies (seat m.localities (get_or m.points point no_point)).company) where
+  module _ (point : ℕ) (change : Change) (c : Charged) (g : GrantedBill y.tariff.figures m.localities m.points point change.volume change.days c) (active : Active m.companies (point_locality m.localities (get_or m.points point no_point)).company) where
     abbrev row : PointRow
     row = get_or m.points point no_point
 
@@ -187,11 +187,11 @@ module _ (y : Fixed) (h : History) (m : Moving) (T : Tied y h m) where
     billed_tied : Tied y ((call.Bill point change, Ok (granted.Billed c.bill)) ∷ h) (record { companies = m.companies; entries = entries; localities = m.localities; points = set m.points point after })
     billed_tied =
         let x : Told = (call.Bill point change, Ok (granted.Billed c.bill)) in
-        let owner = (seat m.localities row).company in
+        let owner = (point_locality m.localities row).company in
         record {
           long = T.long;
-          seats = T.seats;
-          places = length-set m.points point after ∙ T.places;
+          locality_places = T.locality_places;
+          point_places = length-set m.points point after ∙ T.point_places;
           companies = λ i. subst (Held (get_or m.companies i None)) (sym (story_billed x i)) (T.companies i);
           localities = T.localities;
           points =
@@ -204,7 +204,7 @@ module _ (y : Fixed) (h : History) (m : Moving) (T : Tied y h m) where
           settled = λ i.
               settled_same y m.localities m.localities m.points (set m.points point after) i (get_or m.companies i None)
               (λ company stood closed.
-              let foreign = owns_not (seat m.localities row) i (λ stands. another m.companies owner active i company stood closed) in
+              let foreign = owns_not (point_locality m.localities row) i (λ stands. another m.companies owner active i company stood closed) in
               point_sums point after i (serves_not m.localities row i foreign) (serves_not m.localities after i foreign))
               (T.settled i);
           spent = T.spent ∙ sym (no_payment m.entries c point change.volume change.days);
@@ -223,7 +223,7 @@ module _ (y : Fixed) (h : History) (m : Moving) (T : Tied y h m) where
   pub bill_step : (point : ℕ) (change : Change) (r : Result Charged Refusal) → billing book m.localities m.points point change.volume change.days ≡ r → Stands y ((call.Bill point change, grants (bill_of r) granted.Billed) ∷ h) (record { book = billed_by book point change.volume change.days r; localities = m.localities; points = written (billed_row (get_or m.points point no_point)) m.points point (bill_of r) })
   bill_step point change (Err refused) answer = record { m = m; is = refl; tied = kept y h m T (call.Bill point change) refused }
   bill_step point change (Ok c) answer =
-      let granted = both_granted (billing_in y.tariff.figures m.companies m.localities m.points point change.volume change.days) (append_answer y.room m.entries) c answer in
+      let granted = both_granted (billing_in y.tariff.figures m.companies m.localities m.points point change.volume change.days) (append_answer y.capacity m.entries) c answer in
       let g = bill_granted y.tariff.figures m.companies m.localities m.points point change.volume change.days c granted in
       let active = billing_active y.tariff.figures m.companies m.localities m.points point change.volume change.days c granted in
       record {

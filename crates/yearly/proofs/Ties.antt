@@ -21,7 +21,7 @@ use Rattle.orders.specs.Registers.{Companies}
 use Rattle.book.specs.declared.answer.Granted.{Granted}
 use Rattle.book.specs.States.{BookState}
 use Rattle.book.specs.Calls.{State}
-use Rattle.book.specs.Questions.{settlement, price_for, paid_out}
+use Rattle.opened.specs.Figures.{settlement, price_for, paid_out}
 use Rattle.book.specs.JournalSums.{journal_volume, journal_days, advances_of, payments, paid_to}
 use Rattle.yearly.specs.Histories.{Told, History, terms_of, filing_of, enrolment_of, closed_in, drawn, confirmed, taken_back}
 use Rattle.yearly.specs.Entries.{locality_in}
@@ -34,11 +34,11 @@ pub record Fixed : Type 0 where
   pub tariff : Tariff
   pub number : ℕ
   pub sum : ℤ
-  pub room : ℕ
+  pub capacity : ℕ
   pub price : ℕ → ℕ → ℕ → ℕ
   pub filings : List LocalityRow
-  pub seats : ℕ
-  pub places : ℕ
+  pub locality_places : ℕ
+  pub point_places : ℕ
 
 -- what calls alter
 pub record Moving : Type 0 where
@@ -49,7 +49,7 @@ pub record Moving : Type 0 where
 
 abbrev pub book_at : Fixed → Companies → List Entry → BookState
 book_at y companies entries =
-    record { opened = Some (record { tariff = y.tariff; sum = y.sum; register = record { number = y.number; companies = companies } }); entries = entries; room = y.room; price = y.price }
+    record { opened = Some (record { tariff = y.tariff; sum = y.sum; register = record { number = y.number; companies = companies } }); entries = entries; capacity = y.capacity; price = y.price }
 
 abbrev pub state_at : Fixed → Moving → State
 state_at y m = record { book = book_at y m.companies m.entries; localities = m.localities; points = m.points }
@@ -81,8 +81,8 @@ Settled y localities points company (Some c) = c.phase ≡ Closed → c.balances
 
 pub record Tied (y : Fixed) (h : History) (m : Moving) : Type 0 where
   pub long : length m.companies ≡ 16
-  pub seats : length m.localities ≡ y.seats
-  pub places : length m.points ≡ y.places
+  pub locality_places : length m.localities ≡ y.locality_places
+  pub point_places : length m.points ≡ y.point_places
   pub companies : (i : ℕ) → Held (get_or m.companies i None) (story h m.entries i)
   pub localities : (i : ℕ) → get_or m.localities i no_locality ≡ locality_in (filing_of y.filings h i)
   pub points : (i : ℕ) → PointTied (get_or m.points i no_point) (enrolment_of h i) (journal_volume m.entries i) (journal_days m.entries i)
@@ -105,12 +105,12 @@ module _ (y : Fixed) (h : History) (m : Moving) (T : Tied y h m) where
   -- a refused call
   pub kept : (c : Call) (refused : Refusal) → Tied y ((c, Err refused) ∷ h) m
   kept c refused =
-      record { long = T.long; seats = T.seats; places = T.places; companies = T.companies; localities = T.localities; points = T.points; settled = T.settled; spent = T.spent }
+      record { long = T.long; locality_places = T.locality_places; point_places = T.point_places; companies = T.companies; localities = T.localities; points = T.points; settled = T.settled; spent = T.spent }
 
   -- a question
   pub asked : (q : Question) (answer : Result Granted Refusal) → Tied y ((Ask q, answer) ∷ h) m
   asked q (Ok granted) =
-      record { long = T.long; seats = T.seats; places = T.places; companies = T.companies; localities = T.localities; points = T.points; settled = T.settled; spent = T.spent }
+      record { long = T.long; locality_places = T.locality_places; point_places = T.point_places; companies = T.companies; localities = T.localities; points = T.points; settled = T.settled; spent = T.spent }
   asked q (Err refused) = kept (Ask q) refused
 
   -- a company's record is replaced, and entries may be booked: F tells of each company after the call, by whether it is the one
@@ -133,8 +133,8 @@ module _ (y : Fixed) (h : History) (m : Moving) (T : Tied y h m) where
     replaced after others moves settles pays volume days filed enrolled =
         record {
           long = length-set m.companies place (Some new) ∙ T.long;
-          seats = T.seats;
-          places = T.places;
+          locality_places = T.locality_places;
+          point_places = T.point_places;
           companies = held_after after others moves;
           localities = λ i. T.localities i ∙ ap locality_in (sym (filed i));
           points = λ i. point_same _ _ _ _ _ _ _ (enrolled i) (volume i) (days i) (T.points i);

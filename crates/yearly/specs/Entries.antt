@@ -24,13 +24,13 @@ locality_in (Some row) = row
 locality_in None = no_locality
 
 -- the locality in which a point was enrolled, as filed
-abbrev pub seat_in : List LocalityRow → History → Option Enrolment → LocalityRow
-seat_in filings h (Some e) = locality_in (filing_of filings h e.locality)
-seat_in filings h None = no_locality
+abbrev pub locality_enrolled : List LocalityRow → History → Option Enrolment → LocalityRow
+locality_enrolled filings h (Some e) = locality_in (filing_of filings h e.locality)
+locality_enrolled filings h None = no_locality
 
 -- the company of a point is that of this locality
 abbrev pub company_of : List LocalityRow → History → (point : ℕ) → ℕ
-company_of filings h point = (seat_in filings h (enrolment_of h point)).company
+company_of filings h point = (locality_enrolled filings h (enrolment_of h point)).company
 
 -- ---- The entry of a call
 
@@ -38,28 +38,28 @@ abbrev pub no_cents : Cents
 no_cents = record { 0 = pos 0 }
 
 -- a bill: the changes that the call brought, and what it answered that lines 1 to 4, line 6 and line 5 gained
-abbrev pub bill_told : (company point : ℕ) → Change → BillAnswer → Entry
-bill_told company point change b =
+abbrev pub booked_bill : (company point : ℕ) → Change → BillAnswer → Entry
+booked_bill company point change b =
     record { kind = kind.Bill; company = company; place = point; volume = change.volume; days = change.days; amount = b.charge.tariff; ug1 = b.charge.ug1; other = b.charge.gs }
 
 -- what is paid to a company: an advance has the number of its instalment as place, a balance has none, and neither changes a point
-abbrev pub payment_told : Kind → (company place : ℕ) → Cents → Entry
-payment_told kind company place amount =
+abbrev pub booked_payment : Kind → (company place : ℕ) → Cents → Entry
+booked_payment kind company place amount =
     record { kind = kind; company = company; place = place; volume = pos 0; days = pos 0; amount = amount; ug1 = no_cents; other = no_cents }
 
 -- the entry of a call that was granted so, after an earlier history; most calls have none
 abbrev pub entry_of : List LocalityRow → History → Call → Granted → List Entry
-entry_of filings h (Bill point change) (Billed b) = bill_told (company_of filings h point) point change b ∷ []
-entry_of filings h (Confirm o) (Paid amount) = payment_told kind.Advance o.company o.instalment amount ∷ []
-entry_of filings h (Close company) (Closed amount) = payment_told kind.Balance company 0 amount ∷ []
+entry_of filings h (Bill point change) (Billed b) = booked_bill (company_of filings h point) point change b ∷ []
+entry_of filings h (Confirm o) (Paid amount) = booked_payment kind.Advance o.company o.instalment amount ∷ []
+entry_of filings h (Close company) (Closed amount) = booked_payment kind.Balance company 0 amount ∷ []
 entry_of filings h call granted = []
 
 -- a refused call has none
-abbrev pub entry_told : List LocalityRow → History → Call → Result Granted Refusal → List Entry
-entry_told filings h call (Ok granted) = entry_of filings h call granted
-entry_told filings h call (Err refused) = []
+abbrev pub entry_booked : List LocalityRow → History → Call → Result Granted Refusal → List Entry
+entry_booked filings h call (Ok granted) = entry_of filings h call granted
+entry_booked filings h call (Err refused) = []
 
 -- the entries of a whole history, the first call's first
-abbrev pub entries_told : List LocalityRow → History → List Entry
-entries_told filings [] = []
-entries_told filings (told ∷ h) = entries_told filings h ++ entry_told filings h told.0 told.1
+abbrev pub entries_booked : List LocalityRow → History → List Entry
+entries_booked filings [] = []
+entries_booked filings (told ∷ h) = entries_booked filings h ++ entry_booked filings h told.0 told.1

@@ -13,13 +13,9 @@ use Rattle.book.specs.declared.answer.Granted.{Granted}
 use Rattle.book.specs.States.{BookState}
 use Rattle.book.specs.Openings.{unused, opening, opened_by, blanked}
 use Rattle.book.specs.Questions.{account}
-use Rattle.book.specs.Calls.{State, answer_to, after_call}
+use Rattle.book.specs.Calls.{State, answer_to, after_call, with_tables}
 use Rattle.yearly.specs.Histories.{History}
 use Rattle.yearly.specs.YearRules.{Year, YearRules}
-
--- a book with the tables that are lent to it
-abbrev pub standing : BookState → List LocalityRow → List PointRow → State
-standing b localities points = record { book = b; localities = localities; points = points }
 
 -- beginning a year that needs so many places of answers and has so many: 3 where the book is in use, 4 where the places are too few, and then
 -- what opening meets
@@ -30,7 +26,7 @@ beginning b number sum localities points needed places =
 -- what stands after a granted opening
 abbrev pub begun : BookState → Tariff → (number : ℕ) → (sum : ℤ) → List LocalityRow → List PointRow → State
 begun b tariff number sum localities points =
-    standing (opened_by b tariff number sum (Ok tt)) (blanked no_locality localities (Ok tt)) (blanked no_point points (Ok tt))
+    with_tables (opened_by b tariff number sum (Ok tt)) (blanked no_locality localities (Ok tt)) (blanked no_point points (Ok tt))
 
 abbrev pub run_answers : List LocalityRow → State → List Call → List (Result Granted Refusal)
 run_answers filings s [] = []
@@ -55,8 +51,8 @@ year_of tariff sum filings s calls answers =
       tariff = tariff.figures;
       sum = sum;
       price = s.book.price;
-      places = length s.points;
-      seats = length s.localities;
+      point_places = length s.points;
+      locality_places = length s.localities;
       filings = filings;
       history = history_after [] calls answers;
       journal = (run_after filings s calls).book.entries;

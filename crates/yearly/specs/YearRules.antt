@@ -22,15 +22,15 @@ use Rattle.company.specs.Instalments.{instalment}
 use Rattle.calls.specs.declared.enrolling.Enrolment.{Enrolment}
 use Rattle.book.specs.JournalSums.{journal_volume, journal_days, Advanced, advances_of, payments, paid_to, charged_to, ug1_booked, gs_booked, entries_of, bills_of}
 use Rattle.yearly.specs.Histories.{History, terms_of, filing_of, enrolment_of, closed_in, drawn, confirmed, taken_back}
-use Rattle.yearly.specs.Entries.{locality_in, entries_told}
+use Rattle.yearly.specs.Entries.{locality_in, entries_booked}
 
 -- what a year is told by: the opening, the lengths of the lent tables, the list of filings, the history and the journal
 pub record Year : Type 0 where
   pub tariff : TariffFigures
   pub sum : ℤ
   pub price : ℕ → ℕ → ℕ → ℕ
-  pub places : ℕ
-  pub seats : ℕ
+  pub point_places : ℕ
+  pub locality_places : ℕ
   pub filings : List LocalityRow
   pub history : History
   pub journal : List Entry
@@ -44,7 +44,7 @@ abbrev pub locality : Year → (place : ℕ) → LocalityRow
 locality y place = locality_in (filing y place)
 
 abbrev pub localities : Year → List LocalityRow
-localities y = map (locality y) (range_with_len 0 y.seats)
+localities y = map (locality y) (range_with_len 0 y.locality_places)
 
 -- a point: its granted enrolment, at its journal volume and days
 abbrev pub point_in : Option Enrolment → (volume days : ℤ) → PointRow
@@ -59,7 +59,7 @@ abbrev pub point : Year → (place : ℕ) → PointRow
 point y place = point_in (enrolment y place) (journal_volume y.journal place) (journal_days y.journal place)
 
 abbrev pub points : Year → List PointRow
-points y = map (point y) (range_with_len 0 y.places)
+points y = map (point y) (range_with_len 0 y.point_places)
 
 -- ---- What a company's year comes to, by these tables
 
@@ -146,14 +146,14 @@ pub record ChargedRule (y : Year) : Type 0 where
 
 pub record EnrolledRule (y : Year) (place : ℕ) (e : Enrolment) : Type 0 where
   -- an enrolled point has a place in the table, and its row stands
-  pub within : place < y.places
+  pub within : place < y.point_places
   pub stands : point_stands (point y place) ≡ true
   -- its locality is filed
-  pub seated : is_some (filing y e.locality) ≡ true
+  pub filed : is_some (filing y e.locality) ≡ true
 
 pub record FiledRule (y : Year) (place : ℕ) (row : LocalityRow) : Type 0 where
   -- a filed locality has a place in the table, and its row stands
-  pub within : place < y.seats
+  pub within : place < y.locality_places
   pub stands : locality_stands row ≡ true
   -- its company is registered
   pub owned : is_some (terms y row.company) ≡ true
@@ -183,13 +183,13 @@ pub record StrangerRule (y : Year) : Type 0 where
 -- ---- All of them
 
 pub record YearRules (y : Year) (told : ℤ) : Type 0 where
-  pub closing : (company : ℕ) (f : TermsFigures) → terms y company ≡ Some f → closed_in y.history company ≡ true → ClosingRule y company f
+  pub close_decision : (company : ℕ) (f : TermsFigures) → terms y company ≡ Some f → closed_in y.history company ≡ true → ClosingRule y company f
   -- no company is closed that did not register
   pub registered : (company : ℕ) → terms y company ≡ None → closed_in y.history company ≢ true
   pub account : AccountRule y told
   pub advance : (company : ℕ) (f : TermsFigures) → terms y company ≡ Some f → AdvanceRule y company f
   -- the journal tells the calls: it is the entries of the granted bills, confirmings and closings, in their order
-  pub entries : y.journal ≡ entries_told y.filings y.history
+  pub entries : y.journal ≡ entries_booked y.filings y.history
   pub charged : ChargedRule y
   pub standing : StandingRule y
   pub strangers : StrangerRule y

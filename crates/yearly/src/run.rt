@@ -1,12 +1,13 @@
 // A list of calls, one after another, from the opening on.
 ghost use Rattle.std.specs.Prelude.{◌≡◌, ◌≤◌, ◌++◌, length, drop, IfOk, IfErr};
 ghost use Rattle.book.specs.States.{state};
-ghost use Rattle.yearly.specs.Runs.{standing, beginning, begun, run_answers, run_after, AlwaysInOrder};
+ghost use Rattle.book.specs.Calls.{with_tables};
+ghost use Rattle.yearly.specs.Runs.{beginning, begun, run_answers, run_after, AlwaysInOrder};
 
 use book::answer::Granted;
 use book::book::Book;
 use calls::call::Call;
-use journal::kept::Journal;
+use journal::journal::Journal;
 use management::rule::Management;
 use tables::rows::{LocalityRow, PointRow};
 use tariff::table::Tariff;
@@ -22,8 +23,13 @@ fn run<J: Journal, M: Management>(
     answers: &mut [Result<Granted, Refusal>],
 )
     requires { length calls.now ≤ length answers.old }
-    ensures answers { answers.new ≡ run_answers filings.now (standing (state J.Journal M.Management book.old) localities.old points.old) calls.now ++ drop (length calls.now) answers.old }
-    ensures after { standing (state J.Journal M.Management book.new) localities.new points.new ≡ run_after filings.now (standing (state J.Journal M.Management book.old) localities.old points.old) calls.now }
+    ensures answers { answers.new
+        ≡ run_answers filings.now (with_tables (state J.Journal M.Management book.old) localities.old points.old)
+        calls.now
+        ++ drop (length calls.now) answers.old }
+    ensures after { with_tables (state J.Journal M.Management book.new) localities.new points.new
+        ≡ run_after filings.now (with_tables (state J.Journal M.Management book.old) localities.old points.old)
+        calls.now }
 {
     for i in 0..calls.len() {
         answers[i] = book.perform(localities, points, filings, calls[i]);
@@ -43,11 +49,24 @@ pub fn run_year<J: Journal, M: Management>(
     calls: &[Call],
     answers: &mut [Result<Granted, Refusal>],
 ) -> Result<(), Refusal>
-    ensures answer { result ≡ beginning (state J.Journal M.Management book.old) number sum localities.old points.old (length calls.now) (length answers.old) }
-    ensures run { IfOk result (λ _. answers.new ≡ run_answers filings.now (begun (state J.Journal M.Management book.old) tariff.now number sum localities.old points.old) calls.now ++ drop (length calls.now) answers.old) }
-    ensures after { IfOk result (λ _. standing (state J.Journal M.Management book.new) localities.new points.new ≡ run_after filings.now (begun (state J.Journal M.Management book.old) tariff.now number sum localities.old points.old) calls.now) }
-    ensures refused { IfErr result (λ _. (standing (state J.Journal M.Management book.new) localities.new points.new ≡ standing (state J.Journal M.Management book.old) localities.old points.old) × (answers.new ≡ answers.old)) }
-    ensures rules { IfOk result (λ _. AlwaysInOrder tariff.now sum filings.now (begun (state J.Journal M.Management book.old) tariff.now number sum localities.old points.old) calls.now answers.new) }
+    ensures answer { result
+        ≡ beginning (state J.Journal M.Management book.old) number sum localities.old points.old
+        (length calls.now) (length answers.old) }
+    ensures run { IfOk result (λ _. answers.new
+        ≡ run_answers filings.now
+        (begun (state J.Journal M.Management book.old) tariff.now number sum localities.old points.old)
+        calls.now
+        ++ drop (length calls.now) answers.old) }
+    ensures after { IfOk result (λ _. with_tables (state J.Journal M.Management book.new) localities.new points.new
+        ≡ run_after filings.now
+        (begun (state J.Journal M.Management book.old) tariff.now number sum localities.old points.old)
+        calls.now) }
+    ensures refused { IfErr result (λ _. (with_tables (state J.Journal M.Management book.new) localities.new points.new
+        ≡ with_tables (state J.Journal M.Management book.old) localities.old points.old)
+        × (answers.new ≡ answers.old)) }
+    ensures rules { IfOk result (λ _. AlwaysInOrder tariff.now sum filings.now
+        (begun (state J.Journal M.Management book.old) tariff.now number sum localities.old points.old)
+        calls.now answers.new) }
 {
     book.unused()?;
     if calls.len() > answers.len() {

@@ -3,9 +3,10 @@ ghost use Rattle.book.specs.States.{state};
 ghost use Rattle.book.specs.ClosedLists.{Listed};
 
 use super::Book;
-use journal::kept::Journal;
+use crate::on_record::on_record;
+use journal::journal::Journal;
 use management::rule::Management;
-use units::refusal::{Reason, Refusal};
+use units::refusal::Refusal;
 
 impl<J: Journal, M: Management> Book<J, M> {
     /// Enters the closed companies into the list, none twice, from its first place on, and answers how many they are. What stands further on is left.
@@ -13,7 +14,7 @@ impl<J: Journal, M: Management> Book<J, M> {
     pub fn closed_companies(&self, list: &mut [u64]) -> Result<usize, Refusal>
         ensures { Listed (state J.Journal M.Management self.now) list.old list.new result }
     {
-        let opened = self.opened.as_ref().ok_or(Reason::BookNotOpen.at(0))?;
+        let opened = on_record(&self.opened)?;
         opened.register.closed(list)
     }
 }

@@ -1,17 +1,15 @@
 // Closing a company's year, and reopening it.
 ghost use Rattle.std.specs.Prelude.{◌≡◌};
 ghost use Rattle.book.specs.States.{state};
-ghost use Rattle.book.specs.Companies.{moved};
-ghost use Rattle.book.specs.Closings.{closing, balance_of, closed_by, reopening, done};
+ghost use Rattle.book.specs.Closings.{close_answer, after_close, reopen_answer, after_reopen};
 
 use super::Book;
-use crate::company_costs::costs_of;
-use crate::settlement::settle;
+use crate::on_record::on_record_mut;
 use company::record::Event;
 use journal::entry::{Entry, Kind};
-use journal::kept::Journal;
+use journal::journal::Journal;
 use management::rule::Management;
-use revenue::lent::Tables;
+use revenue::book_tables::Tables;
 use tables::rows::{LocalityRow, PointRow};
 use units::amounts::Cents;
 use units::refusal::{Reason, Refusal};
@@ -24,15 +22,16 @@ impl<J: Journal, M: Management> Book<J, M> {
         points: &[PointRow],
         company: u64,
     ) -> Result<Cents, Refusal>
-        ensures answer { result ≡ balance_of (closing (state J.Journal M.Management self.old) localities.now points.now company) }
-        ensures after { state J.Journal M.Management self.new ≡ closed_by (state J.Journal M.Management self.old) company (closing (state J.Journal M.Management self.old) localities.now points.now company) }
+        ensures answer { result
+            ≡ close_answer (state J.Journal M.Management self.old) localities.now points.now company }
+        ensures after { state J.Journal M.Management self.new
+            ≡ after_close (state J.Journal M.Management self.old) localities.now points.now company }
     {
-        let opened = self.opened.as_mut().ok_or(Reason::BookNotOpen.at(0))?;
+        let opened = on_record_mut(&mut self.opened)?;
         let tables = Tables::new(localities, points).ok_or(Reason::PastTable.at(0))?;
         let number = opened.register.number;
         let (found, _) = opened.register.meets(number, company, Event::Close)?;
-        let costs = costs_of(&self.rule, &found.terms);
-        let settled = settle(&opened.tariff, costs, tables, company, &found);
+        let settled = opened.settlement(&self.rule, tables, company, &found);
         self.journal.append(Entry {
             kind: Kind::Balance,
             company: company as u8,
@@ -45,10 +44,11 @@ impl<J: Journal, M: Management> Book<J, M> {
 
     /// Reopens a closed company.
     pub fn reopen(&mut self, company: u64) -> Result<(), Refusal>
-        ensures answer { result ≡ done (reopening (state J.Journal M.Management self.old) company) }
-        ensures after { state J.Journal M.Management self.new ≡ moved (state J.Journal M.Management self.old) company (reopening (state J.Journal M.Management self.old) company) }
+        ensures answer { result ≡ reopen_answer (state J.Journal M.Management self.old) company }
+        ensures after { state J.Journal M.Management self.new
+            ≡ after_reopen (state J.Journal M.Management self.old) company }
     {
-        let opened = self.opened.as_mut().ok_or(Reason::BookNotOpen.at(0))?;
+        let opened = on_record_mut(&mut self.opened)?;
         opened.register.reopen(company)
     }
 }

@@ -2,13 +2,12 @@
 ghost use Rattle.std.specs.Prelude.{◌≡◌};
 ghost use Rattle.units.specs.declared.refusal.Reason.TheVariants.{BookNotOpen};
 ghost use Rattle.units.specs.Refusals.{refusal};
-ghost use Rattle.orders.specs.Orders.{order_drawn, spends};
-ghost use Rattle.orders.specs.Payments.{amount_paid};
 ghost use Rattle.book.specs.States.{state};
-ghost use Rattle.book.specs.Companies.{number_of, drawing, cancelling, sending, bouncing, confirming, moved, confirmed_by};
+ghost use Rattle.book.specs.Companies.{draw_answer, cancel_answer, send_answer, bounce_answer, confirm_answer, after_draw, after_cancel, after_send, after_bounce, after_confirm};
 
 use super::Book;
-use journal::kept::Journal;
+use crate::on_record::on_record_mut;
+use journal::journal::Journal;
 use management::rule::Management;
 use orders::order::{DrawnOrder, Returned, SentOrder};
 use units::amounts::Cents;
@@ -28,17 +27,19 @@ fn not_open<O>(order: O) -> Returned<O>
 impl<J: Journal, M: Management> Book<J, M> {
     /// Draws the order for the instalment after those that a company is paid.
     pub fn draw(&mut self, company: u64) -> Result<DrawnOrder, Refusal>
-        ensures answer { result ≡ order_drawn (number_of self.old.opened) company (drawing (state J.Journal M.Management self.old) company) }
-        ensures after { state J.Journal M.Management self.new ≡ moved (state J.Journal M.Management self.old) company (drawing (state J.Journal M.Management self.old) company) }
+        ensures answer { result ≡ draw_answer (state J.Journal M.Management self.old) company }
+        ensures after { state J.Journal M.Management self.new
+            ≡ after_draw (state J.Journal M.Management self.old) company }
     {
-        let opened = self.opened.as_mut().ok_or(Reason::BookNotOpen.at(0))?;
+        let opened = on_record_mut(&mut self.opened)?;
         opened.register.draw(company)
     }
 
     /// Cancels a drawn order.
     pub fn cancel(&mut self, order: DrawnOrder) -> Result<(), Returned<DrawnOrder>>
-        ensures answer { result ≡ spends order (λ d. tt) (cancelling (state J.Journal M.Management self.old) order.order) }
-        ensures after { state J.Journal M.Management self.new ≡ moved (state J.Journal M.Management self.old) order.order.company (cancelling (state J.Journal M.Management self.old) order.order) }
+        ensures answer { result ≡ cancel_answer (state J.Journal M.Management self.old) order }
+        ensures after { state J.Journal M.Management self.new
+            ≡ after_cancel (state J.Journal M.Management self.old) order.order }
     {
         match &mut self.opened {
             Some(opened) => opened.register.cancel(order),
@@ -48,8 +49,9 @@ impl<J: Journal, M: Management> Book<J, M> {
 
     /// Sends a drawn order.
     pub fn send(&mut self, order: DrawnOrder) -> Result<SentOrder, Returned<DrawnOrder>>
-        ensures answer { result ≡ spends order (λ d. record { order = order.order }) (sending (state J.Journal M.Management self.old) order.order) }
-        ensures after { state J.Journal M.Management self.new ≡ moved (state J.Journal M.Management self.old) order.order.company (sending (state J.Journal M.Management self.old) order.order) }
+        ensures answer { result ≡ send_answer (state J.Journal M.Management self.old) order }
+        ensures after { state J.Journal M.Management self.new
+            ≡ after_send (state J.Journal M.Management self.old) order.order }
     {
         match &mut self.opened {
             Some(opened) => opened.register.send(order),
@@ -59,8 +61,9 @@ impl<J: Journal, M: Management> Book<J, M> {
 
     /// Takes a sent order back, unpaid.
     pub fn bounce(&mut self, order: SentOrder) -> Result<(), Returned<SentOrder>>
-        ensures answer { result ≡ spends order (λ d. tt) (bouncing (state J.Journal M.Management self.old) order.order) }
-        ensures after { state J.Journal M.Management self.new ≡ moved (state J.Journal M.Management self.old) order.order.company (bouncing (state J.Journal M.Management self.old) order.order) }
+        ensures answer { result ≡ bounce_answer (state J.Journal M.Management self.old) order }
+        ensures after { state J.Journal M.Management self.new
+            ≡ after_bounce (state J.Journal M.Management self.old) order.order }
     {
         match &mut self.opened {
             Some(opened) => opened.register.bounce(order),
@@ -70,8 +73,9 @@ impl<J: Journal, M: Management> Book<J, M> {
 
     /// Confirms a sent order: its instalment is paid. Answers the amount.
     pub fn confirm(&mut self, order: SentOrder) -> Result<Cents, Returned<SentOrder>>
-        ensures answer { result ≡ spends order amount_paid (confirming (state J.Journal M.Management self.old) order.order) }
-        ensures after { state J.Journal M.Management self.new ≡ confirmed_by (state J.Journal M.Management self.old) order.order.company (confirming (state J.Journal M.Management self.old) order.order) }
+        ensures answer { result ≡ confirm_answer (state J.Journal M.Management self.old) order }
+        ensures after { state J.Journal M.Management self.new
+            ≡ after_confirm (state J.Journal M.Management self.old) order.order }
     {
         match &mut self.opened {
             Some(opened) => opened.register.confirm(&mut self.journal, order),

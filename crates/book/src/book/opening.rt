@@ -5,15 +5,21 @@ ghost use Rattle.book.specs.States.{state};
 ghost use Rattle.book.specs.Openings.{unused, opening, opened_by, blanked};
 
 use super::Book;
-use crate::opened::Opened;
-use journal::kept::Journal;
+use journal::journal::Journal;
 use management::rule::Management;
+use opened::record::Opened;
 use orders::register::Register;
 use tables::blank::blank;
 use tables::lengths::tables_fit;
 use tables::rows::{LocalityRow, PointRow};
 use tariff::table::Tariff;
 use units::refusal::{Reason, Refusal};
+
+// The greatest number of a book.
+const MOST_NUMBER: u64 = 65_535;
+
+// The most cents of the account's opening sum, on either side of 0.
+const MOST_SUM: u64 = 1_000_000_000_000;
 
 impl<J: Journal, M: Management> Book<J, M> {
     /// Whether the book can still be opened: it is not open, and its journal is empty.
@@ -36,7 +42,8 @@ impl<J: Journal, M: Management> Book<J, M> {
         points: &mut [PointRow],
     ) -> Result<(), Refusal>
         ensures answer { result ≡ opening (state J.Journal M.Management self.old) number sum localities.old points.old }
-        ensures after { state J.Journal M.Management self.new ≡ opened_by (state J.Journal M.Management self.old) tariff.now number sum result }
+        ensures after { state J.Journal M.Management self.new
+            ≡ opened_by (state J.Journal M.Management self.old) tariff.now number sum result }
         ensures localities { localities.new ≡ blanked no_locality localities.old result }
         ensures points { points.new ≡ blanked no_point points.old result }
     {
@@ -44,10 +51,10 @@ impl<J: Journal, M: Management> Book<J, M> {
         if !tables_fit(localities, points) {
             return Err(Reason::PastTable.at(0));
         }
-        if number > 65_535 {
+        if number > MOST_NUMBER {
             return Err(Reason::FigureLimit.at(1));
         }
-        if sum.unsigned_abs() > 1_000_000_000_000 {
+        if sum.unsigned_abs() > MOST_SUM {
             return Err(Reason::FigureLimit.at(2));
         }
         self.opened = Some(Opened {

@@ -3,17 +3,18 @@ ghost use Rattle.std.specs.Prelude.{◌≡◌};
 ghost use Rattle.book.specs.States.{state};
 ghost use Rattle.book.specs.declared.answer.Granted.TheVariants.{Cancelled, Sent, Paid, Bounced};
 ghost use Rattle.orders.specs.Payments.{amount_paid};
-ghost use Rattle.book.specs.Companies.{number_of, drawing, cancelling, sending, bouncing, confirming, moved, confirmed_by};
-ghost use Rattle.book.specs.Calls.{grants, drawn_answer, answer_to, answer_asked, after_call};
+ghost use Rattle.book.specs.Companies.{number_of, draw_decision, cancel_decision, send_decision, bounce_decision, confirm_decision, after_draw, after_cancel, after_send, after_bounce, after_confirm};
+ghost use Rattle.book.specs.Calls.{grants, drawn_answer, answer_to, answer_asked, after_call, with_tables};
 
 use super::Book;
 use crate::answer::Granted;
+use crate::on_record::on_record_mut;
 use calls::call::{Call, Question};
-use journal::kept::Journal;
+use journal::journal::Journal;
 use management::rule::Management;
 use orders::order::Order;
 use tables::rows::{LocalityRow, PointRow, Row};
-use units::refusal::{Reason, Refusal};
+use units::refusal::Refusal;
 
 impl<J: Journal, M: Management> Book<J, M> {
     // Answers a question.
@@ -23,7 +24,8 @@ impl<J: Journal, M: Management> Book<J, M> {
         points: &[PointRow],
         question: Question,
     ) -> Result<Granted, Refusal>
-        ensures { result ≡ answer_asked (record { book = state J.Journal M.Management self.now; localities = localities.now; points = points.now }) question }
+        ensures { result
+            ≡ answer_asked (with_tables (state J.Journal M.Management self.now) localities.now points.now) question }
     {
         match question {
             Question::CapitalCost { locality, service } => self
@@ -51,46 +53,56 @@ impl<J: Journal, M: Management> Book<J, M> {
     }
 
     fn drawn(&mut self, company: u64) -> Result<Granted, Refusal>
-        ensures answer { result ≡ grants (drawing (state J.Journal M.Management self.old) company) (λ d. drawn_answer (number_of self.old.opened) company d.1) }
-        ensures after { state J.Journal M.Management self.new ≡ moved (state J.Journal M.Management self.old) company (drawing (state J.Journal M.Management self.old) company) }
+        ensures answer { result
+            ≡ grants (draw_decision (state J.Journal M.Management self.old) company)
+            (λ d. drawn_answer (number_of self.old.opened) company d.1) }
+        ensures after { state J.Journal M.Management self.new
+            ≡ after_draw (state J.Journal M.Management self.old) company }
     {
-        let opened = self.opened.as_mut().ok_or(Reason::BookNotOpen.at(0))?;
+        let opened = on_record_mut(&mut self.opened)?;
         let order = opened.register.draw_numbers(company)?;
         Ok(Granted::Drawn(order))
     }
 
     fn cancelled(&mut self, order: Order) -> Result<Granted, Refusal>
-        ensures answer { result ≡ grants (cancelling (state J.Journal M.Management self.old) order) (λ d. Cancelled) }
-        ensures after { state J.Journal M.Management self.new ≡ moved (state J.Journal M.Management self.old) order.company (cancelling (state J.Journal M.Management self.old) order) }
+        ensures answer { result
+            ≡ grants (cancel_decision (state J.Journal M.Management self.old) order) (λ d. Cancelled) }
+        ensures after { state J.Journal M.Management self.new
+            ≡ after_cancel (state J.Journal M.Management self.old) order }
     {
-        let opened = self.opened.as_mut().ok_or(Reason::BookNotOpen.at(0))?;
+        let opened = on_record_mut(&mut self.opened)?;
         opened.register.cancel_numbers(order)?;
         Ok(Granted::Cancelled)
     }
 
     fn sent(&mut self, order: Order) -> Result<Granted, Refusal>
-        ensures answer { result ≡ grants (sending (state J.Journal M.Management self.old) order) (λ d. Sent) }
-        ensures after { state J.Journal M.Management self.new ≡ moved (state J.Journal M.Management self.old) order.company (sending (state J.Journal M.Management self.old) order) }
+        ensures answer { result ≡ grants (send_decision (state J.Journal M.Management self.old) order) (λ d. Sent) }
+        ensures after { state J.Journal M.Management self.new
+            ≡ after_send (state J.Journal M.Management self.old) order }
     {
-        let opened = self.opened.as_mut().ok_or(Reason::BookNotOpen.at(0))?;
+        let opened = on_record_mut(&mut self.opened)?;
         opened.register.send_numbers(order)?;
         Ok(Granted::Sent)
     }
 
     fn paid(&mut self, order: Order) -> Result<Granted, Refusal>
-        ensures answer { result ≡ grants (confirming (state J.Journal M.Management self.old) order) (λ d. Paid (amount_paid d)) }
-        ensures after { state J.Journal M.Management self.new ≡ confirmed_by (state J.Journal M.Management self.old) order.company (confirming (state J.Journal M.Management self.old) order) }
+        ensures answer { result
+            ≡ grants (confirm_decision (state J.Journal M.Management self.old) order) (λ d. Paid (amount_paid d)) }
+        ensures after { state J.Journal M.Management self.new
+            ≡ after_confirm (state J.Journal M.Management self.old) order }
     {
-        let opened = self.opened.as_mut().ok_or(Reason::BookNotOpen.at(0))?;
+        let opened = on_record_mut(&mut self.opened)?;
         let amount = opened.register.confirm_numbers(&mut self.journal, order)?;
         Ok(Granted::Paid(amount))
     }
 
     fn bounced(&mut self, order: Order) -> Result<Granted, Refusal>
-        ensures answer { result ≡ grants (bouncing (state J.Journal M.Management self.old) order) (λ d. Bounced) }
-        ensures after { state J.Journal M.Management self.new ≡ moved (state J.Journal M.Management self.old) order.company (bouncing (state J.Journal M.Management self.old) order) }
+        ensures answer { result
+            ≡ grants (bounce_decision (state J.Journal M.Management self.old) order) (λ d. Bounced) }
+        ensures after { state J.Journal M.Management self.new
+            ≡ after_bounce (state J.Journal M.Management self.old) order }
     {
-        let opened = self.opened.as_mut().ok_or(Reason::BookNotOpen.at(0))?;
+        let opened = on_record_mut(&mut self.opened)?;
         opened.register.bounce_numbers(order)?;
         Ok(Granted::Bounced)
     }
@@ -104,8 +116,12 @@ impl<J: Journal, M: Management> Book<J, M> {
         filings: &[LocalityRow],
         call: Call,
     ) -> Result<Granted, Refusal>
-        ensures answer { result ≡ answer_to filings.now (record { book = state J.Journal M.Management self.old; localities = localities.old; points = points.old }) call }
-        ensures after { record { book = state J.Journal M.Management self.new; localities = localities.new; points = points.new } ≡ after_call filings.now (record { book = state J.Journal M.Management self.old; localities = localities.old; points = points.old }) call }
+        ensures answer { result
+            ≡ answer_to filings.now (with_tables (state J.Journal M.Management self.old) localities.old points.old)
+            call }
+        ensures after { with_tables (state J.Journal M.Management self.new) localities.new points.new
+            ≡ after_call filings.now (with_tables (state J.Journal M.Management self.old) localities.old points.old)
+            call }
     {
         match call {
             Call::Register { company, terms } => self

@@ -6,20 +6,17 @@ ghost use Rattle.book.specs.States.{state};
 ghost use Rattle.book.specs.Questions as asked;
 
 use super::Book;
-use crate::company_costs::costs_of;
-use crate::settlement::settle;
-use calls::asking::asked_locality;
+use crate::on_record::on_record;
 use company::record::Company;
-use costs::capital::{capital_cost, unit_component};
 use journal::entry::Entry;
-use journal::kept::Journal;
+use journal::journal::Journal;
 use management::rule::Management;
 use revenue::parts::Revenue;
 use revenue::served::Served;
 use tables::rows::{LocalityRow, PointRow};
 use tables::service::Service;
 use units::amounts::Cents;
-use units::refusal::{Reason, Refusal};
+use units::refusal::Refusal;
 
 impl<J: Journal, M: Management> Book<J, M> {
     /// The capital cost of a service of a locality.
@@ -31,9 +28,7 @@ impl<J: Journal, M: Management> Book<J, M> {
     ) -> Result<u64, Refusal>
         ensures { result ≡ asked.capital_cost (state J.Journal M.Management self.now) localities.now place service }
     {
-        let opened = self.opened.as_ref().ok_or(Reason::BookNotOpen.at(0))?;
-        let locality = asked_locality(localities, place)?;
-        Ok(capital_cost(&locality, &opened.tariff, service))
+        on_record(&self.opened)?.capital_cost(localities, place, service)
     }
 
     /// A service's capital cost for each expected point of a locality.
@@ -45,17 +40,14 @@ impl<J: Journal, M: Management> Book<J, M> {
     ) -> Result<u64, Refusal>
         ensures { result ≡ asked.unit_component (state J.Journal M.Management self.now) localities.now place service }
     {
-        let opened = self.opened.as_ref().ok_or(Reason::BookNotOpen.at(0))?;
-        let locality = asked_locality(localities, place)?;
-        unit_component(&locality, &opened.tariff, service, place)
+        on_record(&self.opened)?.unit_component(localities, place, service)
     }
 
     /// How the company at a place stands.
     pub fn company(&self, place: u64) -> Result<Company, Refusal>
         ensures { result ≡ asked.company (state J.Journal M.Management self.now) place }
     {
-        let opened = self.opened.as_ref().ok_or(Reason::BookNotOpen.at(0))?;
-        opened.register.asked(place)
+        on_record(&self.opened)?.register.asked(place)
     }
 
     /// Lines 1 to 4 of a company's points, at the volume and days on record.
@@ -65,12 +57,10 @@ impl<J: Journal, M: Management> Book<J, M> {
         points: &[PointRow],
         company: u64,
     ) -> Result<Cents, Refusal>
-        ensures { result ≡ asked.lines_billed (state J.Journal M.Management self.now) localities.now points.now company }
+        ensures { result
+            ≡ asked.lines_billed (state J.Journal M.Management self.now) localities.now points.now company }
     {
-        let opened = self.opened.as_ref().ok_or(Reason::BookNotOpen.at(0))?;
-        let (tables, _) = opened.asked(localities, points, company)?;
-        let billed = tables.sums(&opened.tariff, company).billed;
-        Ok(Cents(i128::from(billed)))
+        on_record(&self.opened)?.billed(localities, points, company)
     }
 
     /// The points that a company served.
@@ -80,10 +70,10 @@ impl<J: Journal, M: Management> Book<J, M> {
         points: &[PointRow],
         company: u64,
     ) -> Result<Served, Refusal>
-        ensures { made_of (λ s. (s.regime.0, s.startup.0)) result ≡ asked.served (state J.Journal M.Management self.now) localities.now points.now company }
+        ensures { made_of (λ s. (s.regime.0, s.startup.0)) result
+            ≡ asked.served (state J.Journal M.Management self.now) localities.now points.now company }
     {
-        let opened = self.opened.as_ref().ok_or(Reason::BookNotOpen.at(0))?;
-        opened.served(localities, points, company)
+        on_record(&self.opened)?.served(localities, points, company)
     }
 
     /// The revenue that is recognised to a company, part by part.
@@ -95,10 +85,7 @@ impl<J: Journal, M: Management> Book<J, M> {
     ) -> Result<Revenue, Refusal>
         ensures { result ≡ asked.revenue (state J.Journal M.Management self.now) localities.now points.now company }
     {
-        let opened = self.opened.as_ref().ok_or(Reason::BookNotOpen.at(0))?;
-        let (tables, found) = opened.asked(localities, points, company)?;
-        let costs = costs_of(&self.rule, &found.terms);
-        Ok(tables.outcome(&opened.tariff, costs, company).revenue)
+        on_record(&self.opened)?.revenue(&self.rule, localities, points, company)
     }
 
     /// The balance that is due to a company: what of its settlement no closing has booked yet.
@@ -110,18 +97,14 @@ impl<J: Journal, M: Management> Book<J, M> {
     ) -> Result<Cents, Refusal>
         ensures { result ≡ asked.balance_due (state J.Journal M.Management self.now) localities.now points.now company }
     {
-        let opened = self.opened.as_ref().ok_or(Reason::BookNotOpen.at(0))?;
-        let (tables, found) = opened.asked(localities, points, company)?;
-        let costs = costs_of(&self.rule, &found.terms);
-        Ok(settle(&opened.tariff, costs, tables, company, &found).due)
+        on_record(&self.opened)?.balance_due(&self.rule, localities, points, company)
     }
 
     /// The equalisation account: what it was opened with and line 6 of the points brought, without what was paid out.
     pub fn account(&self, points: &[PointRow]) -> Result<Cents, Refusal>
         ensures { result ≡ asked.account (state J.Journal M.Management self.now) points.now }
     {
-        let opened = self.opened.as_ref().ok_or(Reason::BookNotOpen.at(0))?;
-        opened.account(points)
+        on_record(&self.opened)?.account(points)
     }
 
     /// How many entries the journal holds.
@@ -133,7 +116,7 @@ impl<J: Journal, M: Management> Book<J, M> {
 
     /// How many entries the journal can hold.
     pub fn journal_capacity(&self) -> usize
-        ensures { result ≡ J.Journal.room self.now.journal }
+        ensures { result ≡ J.Journal.capacity self.now.journal }
     {
         self.journal.capacity()
     }

@@ -1,21 +1,23 @@
 // The calls that write a row of a lent table: filing a locality, enrolling a point and billing it.
 ghost use Rattle.std.specs.Prelude.{◌≡◌, slice_index_or};
 ghost use Rattle.tables.specs.Blank.{no_point};
+ghost use Rattle.tables.specs.PointRows.{billed_row};
 ghost use Rattle.book.specs.States.{state};
-ghost use Rattle.book.specs.Tables.{written, billed_row};
-ghost use Rattle.book.specs.Rows.{filing, enrolling, billing, bill_of, billed_by};
+ghost use Rattle.book.specs.Tables.{written};
+ghost use Rattle.book.specs.Rows.{filing, enrolling, bill_answer, after_bill};
 
 use super::Book;
+use crate::on_record::on_record;
 use calls::enrolling::Enrolment;
 use calls::filing::filing;
 use calls::records::Records;
 use journal::entry::{Entry, Kind};
-use journal::kept::Journal;
+use journal::journal::Journal;
 use management::rule::Management;
 use tables::rows::{LocalityRow, PointRow};
 use tariff::bill::Bill;
 use tariff::supply::Change;
-use units::refusal::{Reason, Refusal};
+use units::refusal::Refusal;
 
 impl<J: Journal, M: Management> Book<J, M> {
     /// Files a locality at a place. One on record gets new figures, but keeps its company, state and area.
@@ -28,7 +30,7 @@ impl<J: Journal, M: Management> Book<J, M> {
         ensures answer { result ≡ filing (state J.Journal M.Management self.now) localities.old place row }
         ensures after { localities.new ≡ written (λ l. l) localities.old place result }
     {
-        let opened = self.opened.as_ref().ok_or(Reason::BookNotOpen.at(0))?;
+        let opened = on_record(&self.opened)?;
         let row = filing(&opened.register, localities, place, row)?;
         localities[place as usize] = row;
         Ok(row)
@@ -42,10 +44,11 @@ impl<J: Journal, M: Management> Book<J, M> {
         point: u64,
         enrolment: Enrolment,
     ) -> Result<PointRow, Refusal>
-        ensures answer { result ≡ enrolling (state J.Journal M.Management self.now) localities.now points.old point enrolment }
+        ensures answer { result
+            ≡ enrolling (state J.Journal M.Management self.now) localities.now points.old point enrolment }
         ensures after { points.new ≡ written (λ p. p) points.old point result }
     {
-        let opened = self.opened.as_ref().ok_or(Reason::BookNotOpen.at(0))?;
+        let opened = on_record(&self.opened)?;
         let records = Records {
             register: &opened.register,
             localities,
@@ -64,17 +67,20 @@ impl<J: Journal, M: Management> Book<J, M> {
         point: u64,
         change: Change,
     ) -> Result<Bill, Refusal>
-        ensures answer { result ≡ bill_of (billing (state J.Journal M.Management self.old) localities.now points.old point change.volume change.days) }
-        ensures after { state J.Journal M.Management self.new ≡ billed_by (state J.Journal M.Management self.old) point change.volume change.days (billing (state J.Journal M.Management self.old) localities.now points.old point change.volume change.days) }
-        ensures points { points.new ≡ written (billed_row (slice_index_or points.old point no_point)) points.old point result }
+        ensures answer { result
+            ≡ bill_answer (state J.Journal M.Management self.old) localities.now points.old point change }
+        ensures after { state J.Journal M.Management self.new
+            ≡ after_bill (state J.Journal M.Management self.old) localities.now points.old point change }
+        ensures points { points.new
+            ≡ written (billed_row (slice_index_or points.old point no_point)) points.old point result }
     {
-        let opened = self.opened.as_ref().ok_or(Reason::BookNotOpen.at(0))?;
+        let opened = on_record(&self.opened)?;
         let records = Records {
             register: &opened.register,
             localities,
             points: &*points,
         };
-        let charged = records.billing(&opened.tariff, point, change)?;
+        let (charged, row) = records.billing(&opened.tariff, point, change)?;
         let bill = charged.bill;
         self.journal.append(Entry {
             kind: Kind::Bill,
@@ -86,12 +92,7 @@ impl<J: Journal, M: Management> Book<J, M> {
             ug1: bill.charge.ug1,
             other: bill.charge.gs,
         })?;
-        let row = points[point as usize];
-        points[point as usize] = PointRow {
-            volume: bill.volume,
-            days: bill.days,
-            ..row
-        };
+        points[point as usize] = row;
         Ok(bill)
     }
 }

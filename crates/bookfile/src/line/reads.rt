@@ -44,7 +44,9 @@ fn read_figures(
     statement: Statement,
     words: SplitWhitespace<'_>,
 ) -> Result<[Option<i128>; MOST_FIGURES], Malformed>
-    ensures ok { IfOk result (λ figures. (ws : List (List ℕ)) × Words (split_whitespace_rest words.entry) ws × Filled statement ws (replicate MOST_FIGURES None) figures) }
+    ensures ok { IfOk result
+        (λ figures. (ws : List (List ℕ)) × Words (split_whitespace_rest words.entry) ws
+        × Filled statement ws (replicate MOST_FIGURES None) figures) }
     ensures err { IfErr result (BadWord statement (split_whitespace_rest words.entry)) }
 {
     let mut figures = [None; MOST_FIGURES];
@@ -62,7 +64,8 @@ fn read_figure(
     given: &[Option<i128>; MOST_FIGURES],
 ) -> Result<(usize, i128), Malformed>
     ensures place { IfOk result (λ figure. figure.0 < MOST_FIGURES) }
-    ensures ok { IfOk result (λ figure. Gives statement word.now figure.0 figure.1 × (slice_index_or given.now figure.0 None ≡ None)) }
+    ensures ok { IfOk result
+        (λ figure. Gives statement word.now figure.0 figure.1 × (slice_index_or given.now figure.0 None ≡ None)) }
     ensures err { IfErr result (WordFault statement given.now word.now) }
 {
     let (name, text) = word.split_once('=').ok_or(Malformed::Word)?;

@@ -9,12 +9,10 @@ use super::{
 use crate::numbers::{change, whole};
 use crate::opening::OpeningFigures;
 use crate::rule::RuleFigures;
+use journal::journal::MOST_ENTRIES;
 use std::array;
 use tariff::figures::{Bracket, Coefficient, Life, Rate, TariffFigures};
 use units::amounts::{PointPrice, VolumePrice};
-
-// The most entries that a journal can hold.
-const MOST_ENTRIES: u64 = 1_048_576;
 
 impl Table {
     /// The table's figures; one that is not given is 0.
@@ -59,7 +57,7 @@ impl Table {
         OpeningFigures {
             number: self.figure(OPENING),
             sum: change(self.slots[OPENING + 1]),
-            capacity: self.slots[CAPACITY].map_or(MOST_ENTRIES, |n| whole(Some(n))),
+            capacity: self.slots[CAPACITY].map_or(MOST_ENTRIES as u64, |n| whole(Some(n))),
         }
     }
 

@@ -4,5 +4,5 @@ use Rattle.costs.proofs.regime.for_points.Goals as goal
 
 pub returns-clause-small : goal.returns-clause-small
 returns-clause-small c =
-    let s = rounded_product_at_most c.args.price c.args.points 2000000000 10000000 10000 2000000000000 c.requires.cheap c.requires.few (omega arith) in
+    let s = rounded_product_at_most c.args.price.0 c.args.points 2000000000 10000000 10000 2000000000000 c.requires.cheap c.requires.few (omega arith) in
     omega (arith, c.round_half_up.ensures, s)
