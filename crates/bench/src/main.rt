@@ -8,7 +8,7 @@ mod plan;
 mod year;
 
 use anyhow::anyhow;
-use book::answer::Granted;
+use booklaws::answer::Granted;
 use calls::call::Call;
 use journal::entry::Entry;
 use plan::Size;

@@ -2,8 +2,8 @@
 use crate::digest::Digest;
 use crate::figures::municipal;
 use crate::plan::{BOOK, Size, calls, filings};
-use book::answer::Granted;
 use book::book::Book;
+use booklaws::answer::Granted;
 use calls::call::Call;
 use journal::entry::Entry;
 use journal::lent_journal::LentJournal;

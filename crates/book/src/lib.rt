@@ -1,9 +1,7 @@
-// The yearly book: what is on record, the calls that alter it, and the questions that it answers.
+// The yearly book: over a journal and a management rule, the calls that alter it and the questions that it answers.
 #![tactic(auto)]
 
-pub mod answer;
 pub mod book;
-pub mod laws;
 mod on_record;
 #[cfg(test)]
 mod tests;

@@ -1,7 +1,7 @@
 // What a year comes to, in print: the costs of each locality, and the revenue that is recognised to each company.
 ghost use Rattle.std.specs.Prelude.{◌≡◌, map, Ok, IfOk, is_ok};
 ghost use Rattle.book.specs.States.{state};
-ghost use Rattle.book.specs.Questions as asked;
+ghost use Rattle.booklaws.specs.Questions as asked;
 ghost use Rattle.report.specs.Listed.{parts_listed};
 
 use crate::answer::state_words;

@@ -8,10 +8,10 @@ use Rattle.company.specs.declared.record.Company.{Company}
 use Rattle.orders.specs.declared.order.DrawnOrder.{DrawnOrder}
 use Rattle.orders.specs.declared.order.SentOrder.{SentOrder}
 use Rattle.orders.specs.declared.order.Returned.{Returned}
-use Rattle.book.specs.States.{BookState}
+use Rattle.booklaws.specs.States.{BookState}
 use Rattle.orders.specs.Orders.{order_drawn, spends}
-use Rattle.book.specs.Companies.{number_of, draw_decision, cancel_decision, send_decision, bounce_decision, book_after_event}
-use Rattle.book.specs.Closings.{balance_of, closed_by}
+use Rattle.booklaws.specs.Companies.{number_of, draw_decision, cancel_decision, send_decision, bounce_decision, book_after_event}
+use Rattle.booklaws.specs.Closings.{balance_of, closed_by}
 use Rattle.units.proofs.Granted.{within}
 
 replaced : {A : Type 0} (xs : List (Option A)) (place : ℕ) (a b : A) → get_or xs place None ≡ Some a → get_or (set xs place (Some b)) place None ≡ Some b

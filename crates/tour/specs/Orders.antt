@@ -6,8 +6,9 @@ use Rattle.management.specs.declared.municipal.Municipal.{Municipal}
 use Rattle.management.specs.contracts.municipal.MunicipalManagement.TheImpl.{ghosts as municipal}
 use Rattle.orders.specs.declared.order.Order.{Order}
 use Rattle.book.specs.declared.book.Book.{Book}
-use Rattle.book.specs.States.{BookState, state}
-use Rattle.book.specs.Companies.{cancel_decision, bounce_decision}
+use Rattle.booklaws.specs.States.{BookState}
+use Rattle.book.specs.States.{state}
+use Rattle.booklaws.specs.Companies.{cancel_decision, bounce_decision}
 
 abbrev pub state_of : Book OwnJournal Municipal → BookState
 state_of b = state own_journal municipal b

@@ -13,10 +13,10 @@ use Rattle.management.specs.Rules.{municipal_price}
 use Rattle.calls.specs.declared.call.Call.{Call}
 use Rattle.calls.specs.declared.call.Call.TheVariants.{Register, File, Enrol, Bill as BillCall, Draw, Send, Confirm, Close, Reopen}
 use Rattle.orders.specs.declared.order.Order.{Order}
-use Rattle.book.specs.declared.answer.Granted.{Granted}
-use Rattle.book.specs.Calls.{State, answer_to, after_call}
-use Rattle.book.specs.Openings.{opening, opened_by, blanked}
-use Rattle.book.specs.States.{BookState}
+use Rattle.booklaws.specs.declared.answer.Granted.{Granted}
+use Rattle.booklaws.specs.Calls.{State, answer_to, after_call}
+use Rattle.booklaws.specs.Openings.{opening, opened_by, blanked}
+use Rattle.booklaws.specs.States.{BookState}
 use Rattle.sample.specs.Year.{point_price, worked_table, worked_figures, worked_locality}
 
 -- ---- The opening

@@ -13,7 +13,7 @@ use Rattle.revenue.specs.Recognised.{recognised_revenue}
 use Rattle.company.specs.Instalments.{instalment}
 use Rattle.calls.specs.declared.call.Call.TheVariants.{Register, File, Draw, Send, Confirm, Close, Reopen, Ask}
 use Rattle.calls.specs.declared.call.Question.TheVariants as question
-use Rattle.book.specs.declared.answer.Granted.TheVariants.{Registered, Filed, Enrolled, Billed, Drawn, Sent, Paid, Closed, Reopened, Revenue, BalanceDue, Account}
+use Rattle.booklaws.specs.declared.answer.Granted.TheVariants.{Registered, Filed, Enrolled, Billed, Drawn, Sent, Paid, Closed, Reopened, Revenue, BalanceDue, Account}
 use Rattle.worked.specs.Calls.{worked_opening, bill, enrol, first_order, answer_after, cents, first_bill, second_bill, correction}
 use Rattle.sample.specs.Year.{worked_table, worked_figures, worked_supply, worked_locality, worked_point}
 

@@ -19,9 +19,9 @@ use Rattle.revenue.specs.Gs.{gs_due}
 use Rattle.revenue.specs.Ug1.{ug1_due}
 use Rattle.calls.specs.declared.call.Call.{Call}
 use Rattle.calls.specs.declared.enrolling.Enrolment.{Enrolment}
-use Rattle.book.specs.declared.answer.Granted.{Granted}
-use Rattle.book.specs.Calls.{State}
-use Rattle.book.specs.JournalSums.{is_bill, charge_to, charged_to, ug1_booked, gs_booked, entries_of, bills_of}
+use Rattle.booklaws.specs.declared.answer.Granted.{Granted}
+use Rattle.booklaws.specs.Calls.{State}
+use Rattle.booklaws.specs.JournalSums.{is_bill, charge_to, charged_to, ug1_booked, gs_booked, entries_of, bills_of}
 use Rattle.yearly.specs.Histories.{Told, History, or_else, registers, files, enrols, terms_of, filing_of, enrolment_of}
 use Rattle.yearly.specs.Entries.{entry_of, entry_booked, entries_booked}
 use Rattle.yearly.proofs.Ties.{Fixed}

@@ -33,21 +33,21 @@ use Rattle.calls.specs.declared.enrolling.Enrolment.{Enrolment}
 use Rattle.orders.specs.Registers.{deciding}
 use Rattle.tables.specs.Lengths.{tables_fit}
 use Rattle.calls.specs.Decisions.{billing as billing_in}
-use Rattle.book.specs.declared.answer.Granted.{Granted}
-use Rattle.book.specs.declared.answer.Granted.TheVariants as granted
-use Rattle.book.specs.States.{BookState}
-use Rattle.book.specs.Tables.{written}
+use Rattle.booklaws.specs.declared.answer.Granted.{Granted}
+use Rattle.booklaws.specs.declared.answer.Granted.TheVariants as granted
+use Rattle.booklaws.specs.States.{BookState}
+use Rattle.booklaws.specs.Tables.{written}
 use Rattle.orders.specs.Payments.{amount_paid, advance_entry}
-use Rattle.book.specs.Companies.{register_answer, book_with_terms, decided, confirm_decision, confirmed_by, book_after_event, draw_decision, cancel_decision, send_decision, bounce_decision}
-use Rattle.book.specs.Closings.{close_decision, balance_of, closed_by, balance_entry, reopen_decision}
-use Rattle.book.specs.Rows.{filing, enrolling, billing, bill_of, billed_by, bill_entry}
-use Rattle.book.specs.Calls.{State, grants, filed_row, drawn_answer, answer_to, after_call}
-use Rattle.book.specs.JournalSums.{is_bill, charge_to, charged_to}
+use Rattle.booklaws.specs.Companies.{register_answer, book_with_terms, decided, confirm_decision, confirmed_by, book_after_event, draw_decision, cancel_decision, send_decision, bounce_decision}
+use Rattle.booklaws.specs.Closings.{close_decision, balance_of, closed_by, balance_entry, reopen_decision}
+use Rattle.booklaws.specs.Rows.{filing, enrolling, billing, bill_of, billed_by, bill_entry}
+use Rattle.booklaws.specs.Calls.{State, grants, filed_row, drawn_answer, answer_to, after_call}
+use Rattle.booklaws.specs.JournalSums.{is_bill, charge_to, charged_to}
 use Rattle.units.proofs.Granted.{when_granted, next_granted, both_granted}
-use Rattle.book.proofs.Events.{event_granted}
-use Rattle.book.proofs.Bills.{GrantedBill, bill_granted}
-use Rattle.book.proofs.QuietLaws.{nothing_billed, cond_nothing}
-use Rattle.book.proofs.BillLaw.{still_stands, year_days}
+use Rattle.booklaws.proofs.Events.{event_granted}
+use Rattle.booklaws.proofs.Bills.{GrantedBill, bill_granted}
+use Rattle.booklaws.proofs.QuietLaws.{nothing_billed, cond_nothing}
+use Rattle.booklaws.proofs.BillLaw.{still_stands, year_days}
 use Rattle.orders.proofs.OrderLaws.{order_laws}
 use Rattle.yearly.specs.Histories.{Told, History, or_else, terms_of, filing_of, enrolment_of}
 use Rattle.yearly.specs.Entries.{locality_in, locality_enrolled, company_of, entry_booked, booked_payment, booked_bill}

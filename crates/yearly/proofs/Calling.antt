@@ -5,8 +5,8 @@ use Rattle.std.proofs.Math.Seq.{drop-length}
 use Rattle.units.specs.declared.refusal.Refusal.{Refusal}
 use Rattle.tables.specs.declared.rows.LocalityRow.{LocalityRow}
 use Rattle.calls.specs.declared.call.Call.{Call}
-use Rattle.book.specs.declared.answer.Granted.{Granted}
-use Rattle.book.specs.Calls.{State, answer_to, after_call}
+use Rattle.booklaws.specs.declared.answer.Granted.{Granted}
+use Rattle.booklaws.specs.Calls.{State, answer_to, after_call}
 use Rattle.yearly.specs.Runs.{run_answers, run_after}
 
 abbrev pub Answers : Type 0

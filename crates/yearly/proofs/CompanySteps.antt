@@ -16,16 +16,16 @@ use Rattle.company.proofs.Instalments.{none_paid}
 use Rattle.calls.specs.declared.call.Call.TheVariants.{Register, Draw, Cancel, Send, Bounce, Reopen}
 use Rattle.orders.specs.declared.order.Order.{Order}
 use Rattle.orders.specs.Registers.{company_at}
-use Rattle.book.specs.declared.answer.Granted.TheVariants as granted
-use Rattle.book.specs.States.{BookState, with_company}
-use Rattle.book.specs.Companies.{register_answer, book_with_terms, decided, book_after_event}
-use Rattle.book.specs.Calls.{State, grants, drawn_answer}
+use Rattle.booklaws.specs.declared.answer.Granted.TheVariants as granted
+use Rattle.booklaws.specs.States.{BookState, with_company}
+use Rattle.booklaws.specs.Companies.{register_answer, book_with_terms, decided, book_after_event}
+use Rattle.booklaws.specs.Calls.{State, grants, drawn_answer}
 use Rattle.opened.specs.Figures.{paid_out}
 use Rattle.units.proofs.Granted.{when_granted, same, within}
 use Rattle.orders.proofs.Events.{GrantedEvent}
-use Rattle.book.specs.Laws.{company_in}
-use Rattle.book.proofs.Events.{event_granted}
-use Rattle.book.proofs.QuietLaws.{none_there}
+use Rattle.booklaws.specs.Laws.{company_in}
+use Rattle.booklaws.proofs.Events.{event_granted}
+use Rattle.booklaws.proofs.QuietLaws.{none_there}
 use Rattle.yearly.specs.Histories.{Told, History, terms_of, filing_of, enrolment_of, or_else, latest, is_true, closes, drawn, taken_back}
 use Rattle.yearly.proofs.Stories.{Story, HeldBy, registered_held, draw_held, cancel_held, send_held, bounce_held, reopen_held}
 use Rattle.yearly.proofs.Ties.{Fixed, Moving, book_at, story, Tied, Stands, kept, replaced}

@@ -19,8 +19,8 @@ use Rattle.orders.specs.Registers.{Companies, company_at, after_event}
 use Rattle.tables.specs.Lengths.{tables_fit}
 use Rattle.calls.specs.Decisions.{enrolled_within, filing, enrolling, point_to_bill, billing}
 use Rattle.units.proofs.Granted.{when_granted, found_granted, next_granted, same}
-use Rattle.book.proofs.Bills.{standing_row}
-use Rattle.book.proofs.QuietLaws.{not_standing}
+use Rattle.booklaws.proofs.Bills.{standing_row}
+use Rattle.booklaws.proofs.QuietLaws.{not_standing}
 use Rattle.yearly.proofs.Foreign.{Active, active_at}
 
 -- ---- Filing

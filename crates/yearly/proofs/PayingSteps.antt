@@ -15,18 +15,18 @@ use Rattle.calls.specs.declared.call.Call.TheVariants.{Confirm, Close}
 use Rattle.orders.specs.declared.order.Order.{Order}
 use Rattle.orders.specs.Registers.{deciding}
 use Rattle.tables.specs.Lengths.{tables_fit}
-use Rattle.book.specs.declared.answer.Granted.TheVariants as granted
-use Rattle.book.specs.States.{BookState}
+use Rattle.booklaws.specs.declared.answer.Granted.TheVariants as granted
+use Rattle.booklaws.specs.States.{BookState}
 use Rattle.orders.specs.Payments.{amount_paid, advance_entry}
-use Rattle.book.specs.Companies.{decided, confirm_decision, confirmed_by}
+use Rattle.booklaws.specs.Companies.{decided, confirm_decision, confirmed_by}
 use Rattle.orders.specs.Orders.{settled}
-use Rattle.book.specs.Closings.{settling, close_decision, balance_of, closed_by, balance_entry}
-use Rattle.book.specs.Calls.{State, grants}
-use Rattle.book.specs.JournalSums.{Advanced, change_at, advance_in, advances_of, payment_in, payment_to, paid_to}
+use Rattle.booklaws.specs.Closings.{settling, close_decision, balance_of, closed_by, balance_entry}
+use Rattle.booklaws.specs.Calls.{State, grants}
+use Rattle.booklaws.specs.JournalSums.{Advanced, change_at, advance_in, advances_of, payment_in, payment_to, paid_to}
 use Rattle.opened.specs.Figures.{settlement, price_for}
 use Rattle.units.proofs.Granted.{when_granted, next_granted, both_granted, same, within}
-use Rattle.book.proofs.Events.{event_granted}
-use Rattle.book.proofs.Noting.{advances_push, no_change}
+use Rattle.booklaws.proofs.Events.{event_granted}
+use Rattle.booklaws.proofs.Noting.{advances_push, no_change}
 use Rattle.yearly.specs.Histories.{Told, History, or_else, latest, is_true, closes, confirmed, taken_back}
 use Rattle.yearly.proofs.Stories.{HeldBy, Held, paid_more, confirm_held, close_held}
 use Rattle.yearly.proofs.Ties.{Fixed, Moving, book_at, story, Tied, Stands, kept, replaced}

@@ -19,11 +19,11 @@ use Rattle.company.specs.declared.figures.TermsFigures.{TermsFigures}
 use Rattle.company.specs.declared.record.Company.{Company}
 use Rattle.company.specs.declared.record.Phase.{Phase}
 use Rattle.company.specs.declared.record.Phase.TheVariants.{Free, Drawn, Sent, Closed}
-use Rattle.book.specs.Calls.{State}
-use Rattle.book.specs.JournalSums.{paid_to, payments}
-use Rattle.book.specs.Questions.{account}
+use Rattle.booklaws.specs.Calls.{State}
+use Rattle.booklaws.specs.JournalSums.{paid_to, payments}
+use Rattle.booklaws.specs.Questions.{account}
 use Rattle.orders.specs.Laws.{outs}
-use Rattle.book.specs.Laws.{account_in}
+use Rattle.booklaws.specs.Laws.{account_in}
 use Rattle.yearly.specs.Histories.{History, terms_of, closed_in}
 use Rattle.yearly.specs.YearRules.{Year, locality, localities, point, points, price_of, billed, exact_tariff, recognised, exact_revenue, exact_rest, rounded_figures, ClosingRule, AccountRule, instalments, AdvanceRule, ChargedRule, StandingRule, Stranger, YearRules}
 use Rattle.yearly.proofs.Stories.{is_closed, Held}

@@ -12,13 +12,13 @@ use Rattle.company.specs.declared.record.Company.{Company}
 use Rattle.calls.specs.declared.call.Call.{Call}
 use Rattle.calls.specs.declared.call.Call.TheVariants.{Register, File, Enrol, Bill, Draw, Cancel, Send, Confirm, Bounce, Close, Reopen, Ask}
 use Rattle.tables.specs.Lengths.{tables_fit}
-use Rattle.book.specs.declared.answer.Granted.{Granted}
-use Rattle.book.specs.States.{BookState}
-use Rattle.book.specs.Companies.{register_answer, draw_decision, cancel_decision, send_decision, confirm_decision, bounce_decision}
-use Rattle.book.specs.Rows.{filing, enrolling, billing}
-use Rattle.book.specs.Closings.{close_decision, reopen_decision}
-use Rattle.book.specs.Openings.{unused, opening, opened_by, blanked}
-use Rattle.book.specs.Calls.{State, filed_row, answer_to, after_call, with_tables}
+use Rattle.booklaws.specs.declared.answer.Granted.{Granted}
+use Rattle.booklaws.specs.States.{BookState}
+use Rattle.booklaws.specs.Companies.{register_answer, draw_decision, cancel_decision, send_decision, confirm_decision, bounce_decision}
+use Rattle.booklaws.specs.Rows.{filing, enrolling, billing}
+use Rattle.booklaws.specs.Closings.{close_decision, reopen_decision}
+use Rattle.booklaws.specs.Openings.{unused, opening, opened_by, blanked}
+use Rattle.booklaws.specs.Calls.{State, filed_row, answer_to, after_call, with_tables}
 use Rattle.units.proofs.Granted.{when_granted, next_granted}
 use Rattle.yearly.specs.Histories.{History}
 use Rattle.yearly.specs.Runs.{begun, run_answers, run_after, history_after, AlwaysInOrder}

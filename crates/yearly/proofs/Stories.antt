@@ -16,10 +16,10 @@ use Rattle.company.specs.Events.{act_answer, company_after, draw_answer, reopen_
 use Rattle.company.specs.Instalments.{paid_up_to, instalment}
 use Rattle.company.proofs.Instalments.{none_paid}
 use Rattle.orders.specs.Orders.{settled}
-use Rattle.book.specs.JournalSums.{Advanced}
+use Rattle.booklaws.specs.JournalSums.{Advanced}
 use Rattle.orders.specs.Laws.{outs}
 use Rattle.opened.specs.Figures.{paid_out}
-use Rattle.book.proofs.CloseLaw.{close_free}
+use Rattle.booklaws.proofs.CloseLaw.{close_free}
 use Rattle.orders.proofs.OrderLaws.{order_laws}
 use Rattle.yearly.specs.YearRules.{instalments}
 

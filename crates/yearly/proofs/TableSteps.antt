@@ -17,16 +17,16 @@ use Rattle.calls.specs.declared.billing.Charged.{Charged}
 use Rattle.calls.specs.declared.call.Call.TheVariants as call
 use Rattle.calls.specs.declared.enrolling.Enrolment.{Enrolment}
 use Rattle.calls.specs.Decisions.{billing as billing_in}
-use Rattle.book.specs.declared.answer.Granted.TheVariants as granted
-use Rattle.book.specs.States.{BookState}
-use Rattle.book.specs.Tables.{written}
-use Rattle.book.specs.Rows.{filing, enrolling, billing, bill_of, billed_by, bill_entry}
-use Rattle.book.specs.Calls.{grants, filed_row}
-use Rattle.book.specs.JournalSums.{Advanced, payment_to, journal_volume, journal_days, paid_to}
+use Rattle.booklaws.specs.declared.answer.Granted.TheVariants as granted
+use Rattle.booklaws.specs.States.{BookState}
+use Rattle.booklaws.specs.Tables.{written}
+use Rattle.booklaws.specs.Rows.{filing, enrolling, billing, bill_of, billed_by, bill_entry}
+use Rattle.booklaws.specs.Calls.{grants, filed_row}
+use Rattle.booklaws.specs.JournalSums.{Advanced, payment_to, journal_volume, journal_days, paid_to}
 use Rattle.units.proofs.Granted.{both_granted}
-use Rattle.book.proofs.Bills.{GrantedBill, bill_granted}
-use Rattle.book.proofs.BillLaw.{still_stands, year_days}
-use Rattle.book.proofs.Noting.{its_change, others_change, no_advances, no_payment}
+use Rattle.booklaws.proofs.Bills.{GrantedBill, bill_granted}
+use Rattle.booklaws.proofs.BillLaw.{still_stands, year_days}
+use Rattle.booklaws.proofs.Noting.{its_change, others_change, no_advances, no_payment}
 use Rattle.yearly.specs.Histories.{Told, History, or_else, filing_of, enrolment_of}
 use Rattle.yearly.specs.Entries.{locality_in}
 use Rattle.yearly.specs.YearRules.{point_in}

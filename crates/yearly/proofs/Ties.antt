@@ -18,11 +18,11 @@ use Rattle.calls.specs.declared.call.Call.TheVariants.{Ask}
 use Rattle.calls.specs.declared.call.Question.{Question}
 use Rattle.calls.specs.declared.enrolling.Enrolment.{Enrolment}
 use Rattle.orders.specs.Registers.{Companies}
-use Rattle.book.specs.declared.answer.Granted.{Granted}
-use Rattle.book.specs.States.{BookState}
-use Rattle.book.specs.Calls.{State}
+use Rattle.booklaws.specs.declared.answer.Granted.{Granted}
+use Rattle.booklaws.specs.States.{BookState}
+use Rattle.booklaws.specs.Calls.{State}
 use Rattle.opened.specs.Figures.{settlement, price_for, paid_out}
-use Rattle.book.specs.JournalSums.{journal_volume, journal_days, advances_of, payments, paid_to}
+use Rattle.booklaws.specs.JournalSums.{journal_volume, journal_days, advances_of, payments, paid_to}
 use Rattle.yearly.specs.Histories.{Told, History, terms_of, filing_of, enrolment_of, closed_in, drawn, confirmed, taken_back}
 use Rattle.yearly.specs.Entries.{locality_in}
 use Rattle.yearly.specs.YearRules.{point_in}

@@ -12,8 +12,8 @@ use Rattle.tables.specs.Blank.{no_locality}
 use Rattle.calls.specs.declared.call.Call.{Call}
 use Rattle.calls.specs.declared.call.Call.TheVariants.{Bill, Confirm, Close}
 use Rattle.calls.specs.declared.enrolling.Enrolment.{Enrolment}
-use Rattle.book.specs.declared.answer.Granted.{Granted}
-use Rattle.book.specs.declared.answer.Granted.TheVariants.{Billed, Paid, Closed}
+use Rattle.booklaws.specs.declared.answer.Granted.{Granted}
+use Rattle.booklaws.specs.declared.answer.Granted.TheVariants.{Billed, Paid, Closed}
 use Rattle.yearly.specs.Histories.{History, filing_of, enrolment_of}
 
 -- ---- Whose a point is

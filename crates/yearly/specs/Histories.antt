@@ -6,8 +6,8 @@ use Rattle.company.specs.declared.figures.TermsFigures.{TermsFigures}
 use Rattle.calls.specs.declared.call.Call.{Call}
 use Rattle.calls.specs.declared.call.Call.TheVariants.{Register, File, Enrol, Draw, Cancel, Confirm, Bounce, Close, Reopen}
 use Rattle.calls.specs.declared.enrolling.Enrolment.{Enrolment}
-use Rattle.book.specs.declared.answer.Granted.{Granted}
-use Rattle.book.specs.Calls.{filed_row}
+use Rattle.booklaws.specs.declared.answer.Granted.{Granted}
+use Rattle.booklaws.specs.Calls.{filed_row}
 
 -- a call, and what it was answered
 abbrev pub Told : Type 0

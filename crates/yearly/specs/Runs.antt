@@ -9,11 +9,11 @@ use Rattle.tables.specs.declared.rows.PointRow.{PointRow}
 use Rattle.tables.specs.Blank.{no_locality, no_point}
 use Rattle.calls.specs.declared.call.Call.{Call}
 use Rattle.units.specs.Steps.{when, next}
-use Rattle.book.specs.declared.answer.Granted.{Granted}
-use Rattle.book.specs.States.{BookState}
-use Rattle.book.specs.Openings.{unused, opening, opened_by, blanked}
-use Rattle.book.specs.Questions.{account}
-use Rattle.book.specs.Calls.{State, answer_to, after_call, with_tables}
+use Rattle.booklaws.specs.declared.answer.Granted.{Granted}
+use Rattle.booklaws.specs.States.{BookState}
+use Rattle.booklaws.specs.Openings.{unused, opening, opened_by, blanked}
+use Rattle.booklaws.specs.Questions.{account}
+use Rattle.booklaws.specs.Calls.{State, answer_to, after_call, with_tables}
 use Rattle.yearly.specs.Histories.{History}
 use Rattle.yearly.specs.YearRules.{Year, YearRules}
 

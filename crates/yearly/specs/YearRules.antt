@@ -20,7 +20,7 @@ use Rattle.revenue.specs.Gs.{gs_due}
 use Rattle.company.specs.declared.figures.TermsFigures.{TermsFigures}
 use Rattle.company.specs.Instalments.{instalment}
 use Rattle.calls.specs.declared.enrolling.Enrolment.{Enrolment}
-use Rattle.book.specs.JournalSums.{journal_volume, journal_days, Advanced, advances_of, payments, paid_to, charged_to, ug1_booked, gs_booked, entries_of, bills_of}
+use Rattle.booklaws.specs.JournalSums.{journal_volume, journal_days, Advanced, advances_of, payments, paid_to, charged_to, ug1_booked, gs_booked, entries_of, bills_of}
 use Rattle.yearly.specs.Histories.{History, terms_of, filing_of, enrolment_of, closed_in, drawn, confirmed, taken_back}
 use Rattle.yearly.specs.Entries.{locality_in, entries_booked}
 

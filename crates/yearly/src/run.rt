@@ -1,11 +1,11 @@
 // A list of calls, one after another, from the opening on.
 ghost use Rattle.std.specs.Prelude.{◌≡◌, ◌≤◌, ◌++◌, length, drop, IfOk, IfErr};
 ghost use Rattle.book.specs.States.{state};
-ghost use Rattle.book.specs.Calls.{with_tables};
+ghost use Rattle.booklaws.specs.Calls.{with_tables};
 ghost use Rattle.yearly.specs.Runs.{beginning, begun, run_answers, run_after, AlwaysInOrder};
 
-use book::answer::Granted;
 use book::book::Book;
+use booklaws::answer::Granted;
 use calls::call::Call;
 use journal::journal::Journal;
 use management::rule::Management;

@@ -1,6 +1,6 @@
 // The question that lists the closed companies.
 ghost use Rattle.book.specs.States.{state};
-ghost use Rattle.book.specs.ClosedLists.{Listed};
+ghost use Rattle.booklaws.specs.ClosedLists.{Listed};
 
 use super::Book;
 use crate::on_record::on_record;

@@ -1,7 +1,7 @@
 // Closing a company's year, and reopening it.
 ghost use Rattle.std.specs.Prelude.{◌≡◌};
 ghost use Rattle.book.specs.States.{state};
-ghost use Rattle.book.specs.Closings.{close_answer, after_close, reopen_answer, after_reopen};
+ghost use Rattle.booklaws.specs.Closings.{close_answer, after_close, reopen_answer, after_reopen};
 
 use super::Book;
 use crate::on_record::on_record_mut;

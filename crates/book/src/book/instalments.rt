@@ -3,7 +3,7 @@ ghost use Rattle.std.specs.Prelude.{◌≡◌};
 ghost use Rattle.units.specs.declared.refusal.Reason.TheVariants.{BookNotOpen};
 ghost use Rattle.units.specs.Refusals.{refusal};
 ghost use Rattle.book.specs.States.{state};
-ghost use Rattle.book.specs.Companies.{draw_answer, cancel_answer, send_answer, bounce_answer, confirm_answer, after_draw, after_cancel, after_send, after_bounce, after_confirm};
+ghost use Rattle.booklaws.specs.Companies.{draw_answer, cancel_answer, send_answer, bounce_answer, confirm_answer, after_draw, after_cancel, after_send, after_bounce, after_confirm};
 
 use super::Book;
 use crate::on_record::on_record_mut;

@@ -2,7 +2,7 @@
 ghost use Rattle.std.specs.Prelude.{◌≡◌};
 ghost use Rattle.tables.specs.Blank.{no_locality, no_point};
 ghost use Rattle.book.specs.States.{state};
-ghost use Rattle.book.specs.Openings.{unused, opening, opened_by, blanked};
+ghost use Rattle.booklaws.specs.Openings.{unused, opening, opened_by, blanked};
 
 use super::Book;
 use journal::journal::Journal;

@@ -1,14 +1,14 @@
 // Any call, by its plain numbers.
 ghost use Rattle.std.specs.Prelude.{◌≡◌};
 ghost use Rattle.book.specs.States.{state};
-ghost use Rattle.book.specs.declared.answer.Granted.TheVariants.{Cancelled, Sent, Paid, Bounced};
+ghost use Rattle.booklaws.specs.declared.answer.Granted.TheVariants.{Cancelled, Sent, Paid, Bounced};
 ghost use Rattle.orders.specs.Payments.{amount_paid};
-ghost use Rattle.book.specs.Companies.{number_of, draw_decision, cancel_decision, send_decision, bounce_decision, confirm_decision, after_draw, after_cancel, after_send, after_bounce, after_confirm};
-ghost use Rattle.book.specs.Calls.{grants, drawn_answer, answer_to, answer_asked, after_call, with_tables};
+ghost use Rattle.booklaws.specs.Companies.{number_of, draw_decision, cancel_decision, send_decision, bounce_decision, confirm_decision, after_draw, after_cancel, after_send, after_bounce, after_confirm};
+ghost use Rattle.booklaws.specs.Calls.{grants, drawn_answer, answer_to, answer_asked, after_call, with_tables};
 
 use super::Book;
-use crate::answer::Granted;
 use crate::on_record::on_record_mut;
+use booklaws::answer::Granted;
 use calls::call::{Call, Question};
 use journal::journal::Journal;
 use management::rule::Management;

@@ -3,7 +3,7 @@ ghost use Rattle.std.specs.Prelude.{◌≡◌, length};
 ghost use Rattle.std.specs.List.{slice_get};
 ghost use Rattle.limits.specs.Checked.{made_of};
 ghost use Rattle.book.specs.States.{state};
-ghost use Rattle.book.specs.Questions as asked;
+ghost use Rattle.booklaws.specs.Questions as asked;
 
 use super::Book;
 use crate::on_record::on_record;

@@ -1,7 +1,7 @@
 // Registering a company.
 ghost use Rattle.std.specs.Prelude.{◌≡◌};
 ghost use Rattle.book.specs.States.{state};
-ghost use Rattle.book.specs.Companies.{register_answer, after_register};
+ghost use Rattle.booklaws.specs.Companies.{register_answer, after_register};
 
 use super::Book;
 use crate::on_record::on_record_mut;

@@ -3,8 +3,8 @@ ghost use Rattle.std.specs.Prelude.{◌≡◌, slice_index_or};
 ghost use Rattle.tables.specs.Blank.{no_point};
 ghost use Rattle.tables.specs.PointRows.{billed_row};
 ghost use Rattle.book.specs.States.{state};
-ghost use Rattle.book.specs.Tables.{written};
-ghost use Rattle.book.specs.Rows.{filing, enrolling, bill_answer, after_bill};
+ghost use Rattle.booklaws.specs.Tables.{written};
+ghost use Rattle.booklaws.specs.Rows.{filing, enrolling, bill_answer, after_bill};
 
 use super::Book;
 use crate::on_record::on_record;

@@ -1,5 +1,5 @@
 use Rattle.book.specs.States.{state}
-use Rattle.book.specs.Calls.{with_tables}
+use Rattle.booklaws.specs.Calls.{with_tables}
 use Rattle.yearly.proofs.Calling.{Called}
 use Rattle.yearly.proofs.run.run.Given as goal
 

@@ -1,4 +1,4 @@
-use Rattle.book.specs.Closings.{close_decision}
+use Rattle.booklaws.specs.Closings.{close_decision}
 use Rattle.tour.specs.Orders.{state_of}
 use Rattle.tour.proofs.Orders.{refused_stays}
 use Rattle.tour.proofs.keeper.Keeper.close_early.Goals as goal

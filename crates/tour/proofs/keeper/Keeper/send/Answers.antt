@@ -1,4 +1,4 @@
-use Rattle.book.specs.Companies.{send_decision}
+use Rattle.booklaws.specs.Companies.{send_decision}
 use Rattle.tour.specs.Orders.{state_of}
 use Rattle.tour.proofs.Orders.{sent_bounces, spends_back}
 use Rattle.tour.proofs.keeper.Keeper.send.Goals as goal

@@ -1,5 +1,5 @@
 // The laws of the book, on which the rules of a whole year rest.
-ghost use Rattle.book.specs.Laws.{ConfirmLaw, QuietLaws, BillLaw, CloseLaw};
+ghost use Rattle.booklaws.specs.Laws.{ConfirmLaw, QuietLaws, BillLaw, CloseLaw};
 
 /// Confirming advances the order's instalment to its company, and nothing else moves in the journal. The account loses its amount.
 pub fn confirm_law() -> u8

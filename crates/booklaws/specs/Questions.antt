@@ -9,7 +9,7 @@ use Rattle.revenue.specs.declared.parts.Revenue.{Revenue}
 use Rattle.company.specs.declared.record.Company.{Company}
 use Rattle.orders.specs.Registers.{asked_company}
 use Rattle.opened.specs.Questions as opened
-use Rattle.book.specs.States.{BookState, when_open}
+use Rattle.booklaws.specs.States.{BookState, when_open}
 
 -- ---- A locality
 

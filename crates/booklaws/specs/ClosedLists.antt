@@ -5,7 +5,7 @@ use Rattle.units.specs.declared.refusal.Refusal.{Refusal}
 use Rattle.units.specs.Refusals.{refusal}
 use Rattle.orders.specs.ClosedLists as register
 use Rattle.opened.specs.declared.record.Opened.{Opened}
-use Rattle.book.specs.States.{BookState}
+use Rattle.booklaws.specs.States.{BookState}
 
 -- 2 while the book is not open, which writes nothing; then what its register lists
 abbrev pub ListedIn : Option Opened → (old new : List ℕ) → Result ℕ Refusal → Type 0

@@ -14,8 +14,8 @@ use Rattle.orders.specs.Registers.{deciding}
 use Rattle.tables.specs.Lengths.{tables_fit}
 use Rattle.units.specs.Steps.{when, next}
 use Rattle.orders.specs.Orders.{settled}
-use Rattle.book.specs.States.{BookState, when_open, in_room, noted, with_company}
-use Rattle.book.specs.Companies.{number_of, decided, book_after_event}
+use Rattle.booklaws.specs.States.{BookState, when_open, in_room, noted, with_company}
+use Rattle.booklaws.specs.Companies.{number_of, decided, book_after_event}
 use Rattle.opened.specs.Figures.{settlement, due, price_for}
 
 -- the company after its closing, and the balance due

@@ -15,7 +15,7 @@ use Rattle.orders.specs.Registers.{registering, registered_by}
 use Rattle.orders.specs.Orders.{decision, register_after, order_drawn, spends}
 use Rattle.orders.specs.Payments.{amount_paid, entries_paid}
 use Rattle.opened.specs.declared.record.Opened.{Opened}
-use Rattle.book.specs.States.{BookState, when_open, in_room, with_opened, altered}
+use Rattle.booklaws.specs.States.{BookState, when_open, in_room, with_opened, altered}
 
 -- registering a company
 abbrev pub register_answer : BookState → (company : ℕ) → TermsFigures → Result Terms Refusal

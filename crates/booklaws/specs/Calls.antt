@@ -9,16 +9,16 @@ use Rattle.calls.specs.declared.call.Call.TheVariants as call
 use Rattle.calls.specs.declared.call.Question.{Question}
 use Rattle.calls.specs.declared.call.Question.TheVariants as question
 use Rattle.units.specs.Steps.{next}
-use Rattle.book.specs.declared.answer.Granted.{Granted}
-use Rattle.book.specs.declared.answer.Granted.TheVariants as granted
-use Rattle.book.specs.States.{BookState}
+use Rattle.booklaws.specs.declared.answer.Granted.{Granted}
+use Rattle.booklaws.specs.declared.answer.Granted.TheVariants as granted
+use Rattle.booklaws.specs.States.{BookState}
 use Rattle.tables.specs.PointRows.{billed_row}
-use Rattle.book.specs.Tables.{written}
+use Rattle.booklaws.specs.Tables.{written}
 use Rattle.orders.specs.Payments.{amount_paid}
-use Rattle.book.specs.Companies.{number_of, register_answer, draw_decision, cancel_decision, send_decision, confirm_decision, bounce_decision, after_register, after_draw, after_cancel, after_send, after_confirm, after_bounce}
-use Rattle.book.specs.Rows.{filing, enrolling, bill_answer, after_bill}
-use Rattle.book.specs.Questions as asked
-use Rattle.book.specs.Closings.{close_answer, reopen_decision, after_close, after_reopen}
+use Rattle.booklaws.specs.Companies.{number_of, register_answer, draw_decision, cancel_decision, send_decision, confirm_decision, bounce_decision, after_register, after_draw, after_cancel, after_send, after_confirm, after_bounce}
+use Rattle.booklaws.specs.Rows.{filing, enrolling, bill_answer, after_bill}
+use Rattle.booklaws.specs.Questions as asked
+use Rattle.booklaws.specs.Closings.{close_answer, reopen_decision, after_close, after_reopen}
 
 -- a book and the two tables that are lent to it
 pub record State : Type 0 where

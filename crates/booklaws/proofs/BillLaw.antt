@@ -17,13 +17,13 @@ use Rattle.revenue.proofs.Replacing.{ug1_set}
 use Rattle.calls.specs.declared.billing.Charged.{Charged}
 use Rattle.calls.specs.Decisions.{billing as billing_in}
 use Rattle.opened.specs.declared.record.Opened.{Opened}
-use Rattle.book.specs.States.{BookState, with_opened}
-use Rattle.book.specs.Rows.{billing, bill_entry, billed_by}
-use Rattle.book.specs.Laws.{account_in, row_of, BillEntry, Billed, points_billed, BillLaw}
+use Rattle.booklaws.specs.States.{BookState, with_opened}
+use Rattle.booklaws.specs.Rows.{billing, bill_entry, billed_by}
+use Rattle.booklaws.specs.Laws.{account_in, row_of, BillEntry, Billed, points_billed, BillLaw}
 use Rattle.units.proofs.Granted.{both_granted}
-use Rattle.book.proofs.Events.{on_record}
-use Rattle.book.proofs.Noting.{its_change, others_change, no_advances, no_payment}
-use Rattle.book.proofs.Bills.{GrantedBill, bill_granted}
+use Rattle.booklaws.proofs.Events.{on_record}
+use Rattle.booklaws.proofs.Noting.{its_change, others_change, no_advances, no_payment}
+use Rattle.booklaws.proofs.Bills.{GrantedBill, bill_granted}
 
 -- a row that is billed within its limits stands as it did
 pub still_stands : (p : PointRow) (b : Bill) → point_stands p ≡ true → b.volume ≤ 1000000000 → b.days ≤ 366 → point_stands (billed_row p b) ≡ true

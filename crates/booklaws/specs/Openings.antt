@@ -8,7 +8,7 @@ use Rattle.tables.specs.declared.rows.PointRow.{PointRow}
 use Rattle.orders.specs.Registers.{empty_register}
 use Rattle.tables.specs.Lengths.{tables_fit}
 use Rattle.units.specs.Steps.{when, next}
-use Rattle.book.specs.States.{BookState, with_opened}
+use Rattle.booklaws.specs.States.{BookState, with_opened}
 
 -- whether the book can still be opened: 3 where it is open, then 3 where its journal has an entry
 abbrev pub unused : BookState → Result (Unit {0}) Refusal

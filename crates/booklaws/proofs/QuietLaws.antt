@@ -28,15 +28,15 @@ use Rattle.orders.specs.Registers.{Companies, company_at, after_event, registeri
 use Rattle.tables.specs.Lengths.{tables_fit}
 use Rattle.calls.specs.Decisions.{enrolled_within, enrolling as enrolling_in}
 use Rattle.opened.specs.declared.record.Opened.{Opened}
-use Rattle.book.specs.States.{BookState, when_open, altered, put}
-use Rattle.book.specs.Companies.{register_answer, book_with_terms, number_of, decided, draw_decision, cancel_decision, send_decision, bounce_decision, book_after_event}
-use Rattle.book.specs.Closings.{reopen_decision}
-use Rattle.book.specs.Rows.{enrolling}
-use Rattle.book.specs.Tables.{written}
+use Rattle.booklaws.specs.States.{BookState, when_open, altered, put}
+use Rattle.booklaws.specs.Companies.{register_answer, book_with_terms, number_of, decided, draw_decision, cancel_decision, send_decision, bounce_decision, book_after_event}
+use Rattle.booklaws.specs.Closings.{reopen_decision}
+use Rattle.booklaws.specs.Rows.{enrolling}
+use Rattle.booklaws.specs.Tables.{written}
 use Rattle.opened.specs.Figures.{paid_out}
-use Rattle.book.specs.Laws.{account_in, Quiet, QuietLaws}
+use Rattle.booklaws.specs.Laws.{account_in, Quiet, QuietLaws}
 use Rattle.units.proofs.Granted.{when_granted, found_granted, both_granted, same}
-use Rattle.book.proofs.Events.{event_granted, account_put}
+use Rattle.booklaws.proofs.Events.{event_granted, account_put}
 
 -- a refused call alters nothing of what is on record
 unaltered : (opened : Option Opened) → altered opened (λ r. r) ≡ opened

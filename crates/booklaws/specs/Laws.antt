@@ -22,17 +22,17 @@ use Rattle.calls.specs.declared.call.Question.{Question}
 use Rattle.calls.specs.declared.enrolling.Enrolment.{Enrolment}
 use Rattle.orders.specs.Registers.{company_at}
 use Rattle.opened.specs.declared.record.Opened.{Opened}
-use Rattle.book.specs.States.{BookState}
+use Rattle.booklaws.specs.States.{BookState}
 use Rattle.orders.specs.Payments.{amount_paid}
-use Rattle.book.specs.Companies.{confirm_decision, confirmed_by}
-use Rattle.book.specs.Closings.{close_decision, closed_by}
+use Rattle.booklaws.specs.Companies.{confirm_decision, confirmed_by}
+use Rattle.booklaws.specs.Closings.{close_decision, closed_by}
 use Rattle.opened.specs.Figures.{account_of}
-use Rattle.book.specs.Questions.{balance_due}
-use Rattle.book.specs.Rows.{billing, bill_of, billed_by}
+use Rattle.booklaws.specs.Questions.{balance_due}
+use Rattle.booklaws.specs.Rows.{billing, bill_of, billed_by}
 use Rattle.tables.specs.PointRows.{billed_row}
-use Rattle.book.specs.Tables.{written}
-use Rattle.book.specs.JournalSums.{journal_volume, journal_days, advances_of, payments}
-use Rattle.book.specs.Calls.{State, after_call}
+use Rattle.booklaws.specs.Tables.{written}
+use Rattle.booklaws.specs.JournalSums.{journal_volume, journal_days, advances_of, payments}
+use Rattle.booklaws.specs.Calls.{State, after_call}
 
 -- ---- What the laws speak of
 

@@ -9,9 +9,9 @@ use Rattle.rounding.specs.Sums.{sum_z}
 use Rattle.rounding.proofs.SumLaws.{sum_z_push}
 use Rattle.calls.specs.declared.billing.Charged.{Charged}
 use Rattle.orders.specs.Payments.{advance_entry}
-use Rattle.book.specs.Closings.{balance_entry}
-use Rattle.book.specs.Rows.{bill_entry}
-use Rattle.book.specs.JournalSums.{change_at, advance_in, advances_of, payment_in, payments, Advanced}
+use Rattle.booklaws.specs.Closings.{balance_entry}
+use Rattle.booklaws.specs.Rows.{bill_entry}
+use Rattle.booklaws.specs.JournalSums.{change_at, advance_in, advances_of, payment_in, payments, Advanced}
 
 -- ---- Any entry
 pub advances_push : (es : List Entry) (e : Entry) (company : ℕ) → advances_of (es ++ e ∷ []) company ≡ advances_of es company ++ advance_in company e

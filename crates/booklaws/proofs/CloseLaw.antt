@@ -16,14 +16,14 @@ use Rattle.tables.specs.Lengths.{tables_fit}
 use Rattle.units.specs.Steps.{when, found, next}
 use Rattle.opened.specs.declared.record.Opened.{Opened}
 use Rattle.orders.specs.Registers.{with_company}
-use Rattle.book.specs.States.{BookState, with_opened, with_register}
+use Rattle.booklaws.specs.States.{BookState, with_opened, with_register}
 use Rattle.orders.specs.Orders.{settled}
-use Rattle.book.specs.Closings.{settling, close_decision, balance_entry, closed_by}
+use Rattle.booklaws.specs.Closings.{settling, close_decision, balance_entry, closed_by}
 use Rattle.opened.specs.Figures.{asked, price_for, settlement, due, paid_out}
-use Rattle.book.specs.Laws.{YearClosed, CloseLaw}
+use Rattle.booklaws.specs.Laws.{YearClosed, CloseLaw}
 use Rattle.units.proofs.Granted.{when_granted, next_granted, both_granted, same}
-use Rattle.book.proofs.Events.{event_granted, account_put, company_put, others_put, on_record}
-use Rattle.book.proofs.Noting.{balance_no_change, balance_no_advances, balance_payment}
+use Rattle.booklaws.proofs.Events.{event_granted, account_put, company_put, others_put, on_record}
+use Rattle.booklaws.proofs.Noting.{balance_no_change, balance_no_advances, balance_payment}
 
 -- an order that is out refuses a closing
 pub close_free : (p : Phase) (k : ℕ) → close_answer p ≡ Ok k → p ≡ Free

@@ -6,15 +6,15 @@ use Rattle.journal.specs.Appending.{append_answer}
 use Rattle.company.specs.declared.record.Company.{Company}
 use Rattle.company.specs.declared.record.Event.TheVariants.{Confirm}
 use Rattle.opened.specs.declared.record.Opened.{Opened}
-use Rattle.book.specs.States.{put}
+use Rattle.booklaws.specs.States.{put}
 use Rattle.orders.specs.Payments.{amount_paid}
-use Rattle.book.specs.Companies.{decided}
-use Rattle.book.specs.Laws.{company_in, account_in, ConfirmLaw}
+use Rattle.booklaws.specs.Companies.{decided}
+use Rattle.booklaws.specs.Laws.{company_in, account_in, ConfirmLaw}
 use Rattle.units.proofs.Granted.{both_granted}
 use Rattle.orders.proofs.PaidLaw.{gains}
 use Rattle.orders.proofs.Events.{GrantedEvent}
-use Rattle.book.proofs.Events.{event_granted, account_put, company_put}
-use Rattle.book.proofs.Noting.{no_change, its_advance, others_advances, its_payment}
+use Rattle.booklaws.proofs.Events.{event_granted, account_put, company_put}
+use Rattle.booklaws.proofs.Noting.{no_change, its_advance, others_advances, its_payment}
 
 module _ (opened : Option Opened) (place j : ℕ) (d : Company × ℕ) (g : GrantedEvent (company_in opened place) (Confirm j) d) where
   account_loses : (c : Company) → company_in opened place ≡ Some c → d.1 ≡ c.paid + 1 → (points : List PointRow) → account_in (put opened place d.0) points ≡ account_in opened points -ℤ (amount_paid d).0

@@ -11,7 +11,7 @@ use Rattle.calls.specs.declared.billing.Charged.{Charged}
 use Rattle.calls.specs.declared.enrolling.Enrolment.{Enrolment}
 use Rattle.calls.specs.Decisions as decision
 use Rattle.units.specs.Steps.{next}
-use Rattle.book.specs.States.{BookState, when_open, in_room, noted}
+use Rattle.booklaws.specs.States.{BookState, when_open, in_room, noted}
 
 abbrev pub filing : BookState → List LocalityRow → (place : ℕ) → LocalityRow → Result LocalityRow Refusal
 filing b localities place row = when_open b.opened (λ o. decision.filing o.register.companies localities place row)

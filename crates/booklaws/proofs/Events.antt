@@ -10,8 +10,8 @@ use Rattle.orders.specs.Orders.{decision}
 use Rattle.orders.proofs.Events as register
 use Rattle.orders.proofs.Events.{GrantedEvent}
 use Rattle.opened.specs.declared.record.Opened.{Opened}
-use Rattle.book.specs.States.{BookState, when_open, with_opened, put}
-use Rattle.book.specs.Laws.{company_in, account_in}
+use Rattle.booklaws.specs.States.{BookState, when_open, with_opened, put}
+use Rattle.booklaws.specs.Laws.{company_in, account_in}
 use Rattle.opened.specs.Figures.{paid_out}
 
 pub event_granted : (opened : Option Opened) (number place : ℕ) (e : Event) (d : Company × ℕ) → when_open opened (λ o. decision o.register number place e) ≡ Ok d → GrantedEvent (company_in opened place) e d

@@ -1,0 +1,11 @@
+pub mod Tables
+pub mod States
+pub mod Openings
+pub mod Companies
+pub mod Rows
+pub mod Questions
+pub mod Closings
+pub mod Calls
+pub mod JournalSums
+pub mod Laws
+pub mod ClosedLists
