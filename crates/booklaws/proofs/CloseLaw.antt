@@ -18,8 +18,8 @@ use Rattle.opened.specs.declared.record.Opened.{Opened}
 use Rattle.orders.specs.Registers.{with_company}
 use Rattle.booklaws.specs.States.{BookState, with_opened, with_register}
 use Rattle.orders.specs.Orders.{settled}
-use Rattle.booklaws.specs.Closings.{settling, close_decision, balance_entry, closed_by}
-use Rattle.opened.specs.Figures.{asked, price_for, settlement, due, paid_out}
+use Rattle.booklaws.specs.Closings.{close_decision, balance_entry, closed_by}
+use Rattle.opened.specs.Figures.{asked, settling, price_for, settlement, due, paid_out}
 use Rattle.booklaws.specs.Laws.{YearClosed, CloseLaw}
 use Rattle.units.proofs.Granted.{when_granted, next_granted, both_granted, same}
 use Rattle.booklaws.proofs.Events.{event_granted, account_put, company_put, others_put, on_record}

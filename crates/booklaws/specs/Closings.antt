@@ -1,36 +1,22 @@
 -- What closing a company's year and reopening it meet, and what they leave.
 use Rattle.std.specs.Prelude.{ℕ, List, pos, Ok, Err, Result}
 use Rattle.units.specs.declared.amounts.Cents.{Cents}
-use Rattle.units.specs.declared.refusal.Reason.TheVariants.{PastTable}
 use Rattle.units.specs.declared.refusal.Refusal.{Refusal}
 use Rattle.journal.specs.declared.entry.Entry.{Entry}
 use Rattle.journal.specs.declared.entry.Kind.TheVariants.{Balance}
 use Rattle.tables.specs.declared.rows.LocalityRow.{LocalityRow}
 use Rattle.tables.specs.declared.rows.PointRow.{PointRow}
-use Rattle.tariff.specs.declared.figures.TariffFigures.{TariffFigures}
 use Rattle.company.specs.declared.record.Company.{Company}
-use Rattle.company.specs.declared.record.Event.TheVariants.{Close, Reopen}
-use Rattle.orders.specs.Registers.{deciding}
-use Rattle.tables.specs.Lengths.{tables_fit}
-use Rattle.units.specs.Steps.{when, next}
-use Rattle.orders.specs.Orders.{settled}
+use Rattle.company.specs.declared.record.Event.TheVariants.{Reopen}
+use Rattle.units.specs.Steps.{next}
 use Rattle.booklaws.specs.States.{BookState, when_open, in_room, noted, with_company}
 use Rattle.booklaws.specs.Companies.{number_of, decided, book_after_event}
-use Rattle.opened.specs.Figures.{settlement, due, price_for}
+use Rattle.opened.specs.Figures.{closing}
 
--- the company after its closing, and the balance due
-abbrev pub settling : TariffFigures → (price : ℕ) → List LocalityRow → List PointRow → (company : ℕ) → Company → Company × Cents
-settling t price localities points company c =
-    (settled c (settlement t price localities points company c), due t price localities points company c)
-
--- closing a company: 4 for a table too long and past the sixteen, 5 where none is registered, 9 where it is closed, 11 while an order is out;
--- it books the balance due, so that it needs room
+-- closing a company books the balance due, so that it needs room
 abbrev pub close_decision : BookState → List LocalityRow → List PointRow → (company : ℕ) → Result (Company × Cents) Refusal
 close_decision b localities points company =
-    in_room b (when_open b.opened (λ o.
-    when (tables_fit localities points) PastTable 0
-    (next (deciding o.register.companies o.register.number o.register.number company Close) (λ d.
-    Ok (settling o.tariff.figures (price_for b.price d.0) localities points company d.0)))))
+    in_room b (when_open b.opened (λ o. closing o b.price localities points company))
 
 -- closing answers the balance
 abbrev pub balance_of : Result (Company × Cents) Refusal → Result Cents Refusal

@@ -17,7 +17,9 @@ use Rattle.revenue.specs.Recognised.{recognised, recognised_revenue}
 use Rattle.revenue.specs.Ug1.{ug1_due}
 use Rattle.company.specs.declared.record.Company.{Company}
 use Rattle.company.specs.Events.{advances}
-use Rattle.orders.specs.Registers.{asked_company}
+use Rattle.company.specs.declared.record.Event.TheVariants.{Close}
+use Rattle.orders.specs.Registers.{asked_company, deciding}
+use Rattle.orders.specs.Orders.{settled}
 use Rattle.opened.specs.declared.record.Opened.{Opened}
 
 -- a figure of the company that is asked about: 4 for a table too long, then 4 and 5 for the company
@@ -46,6 +48,18 @@ settlement t price localities points company c =
 -- the balance due: what of the settlement no closing has booked yet
 abbrev pub due : TariffFigures → (price : ℕ) → List LocalityRow → List PointRow → (company : ℕ) → Company → Cents
 due t price localities points company c = record { 0 = settlement t price localities points company c -ℤ c.balances }
+
+-- the company after its closing, and the balance due
+abbrev pub settling : TariffFigures → (price : ℕ) → List LocalityRow → List PointRow → (company : ℕ) → Company → Company × Cents
+settling t price localities points company c =
+    (settled c (settlement t price localities points company c), due t price localities points company c)
+
+-- closing a company: 4 for a table too long and past the sixteen, 5 where none is registered, 9 where it is closed, 11 while an order is out
+abbrev pub closing : Opened → (price : ℕ → ℕ → ℕ → ℕ) → List LocalityRow → List PointRow → (company : ℕ) → Result (Company × Cents) Refusal
+closing o price localities points company =
+    when (tables_fit localities points) PastTable 0
+    (next (deciding o.register.companies o.register.number o.register.number company Close) (λ d.
+    Ok (settling o.tariff.figures (price_for price d.0) localities points company d.0)))
 
 -- what the account lost to the company at a place
 abbrev pub paid_out : Option Company → ℤ

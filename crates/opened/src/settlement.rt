@@ -1,13 +1,17 @@
 // What a company's year comes to.
-ghost use Rattle.std.specs.Prelude.{◌≡◌, pos, neg_ℤ, ◌≤ℤ◌};
-ghost use Rattle.opened.specs.Figures.{price_for, settlement, due};
+ghost use Rattle.std.specs.Prelude.{◌≡◌, ℕ, pos, neg_ℤ, ◌≤ℤ◌, ◌<◌, Ok, Err, OnOk, MatchResult};
+ghost use Rattle.company.specs.declared.record.Company.{Company};
+ghost use Rattle.orders.specs.Orders.{close_decision, settled};
+ghost use Rattle.opened.specs.Figures.{price_for, settlement, due, closing};
 
 use crate::company_costs::costs_of;
 use crate::record::Opened;
-use company::record::Company;
+use company::record::{Company, Event};
 use management::rule::Management;
 use revenue::book_tables::Tables;
+use tables::rows::{LocalityRow, PointRow};
 use units::amounts::Cents;
+use units::refusal::{Reason, Refusal};
 
 /// What closing a company would book, and what its balances would then come to.
 #[derive(Clone, Copy, Debug, PartialEq, Eq)]
@@ -57,5 +61,27 @@ impl Opened {
             due: Cents(settlement - i128::from(company.balances)),
             balances: settlement as i64,
         }
+    }
+
+    /// What closing a company would book. It is refused by 4 for a table too long and past the sixteen, 5 where none is registered, 9 where it is closed, and 11 while
+    /// an order is out.
+    pub fn closing<M: Management>(
+        &self,
+        rule: &M,
+        localities: &[LocalityRow],
+        points: &[PointRow],
+        company: u64,
+    ) -> Result<Settlement, Refusal>
+        ensures within { OnOk result (company < 16) }
+        ensures answer { MatchResult result
+            (λ s. (d : Company × ℕ) × (close_decision self.now.register company ≡ Ok d)
+            × (closing self.now (M.Management.price rule.now) localities.now points.now company
+            ≡ Ok (settled d.0 s.balances, s.due)))
+            (λ e. closing self.now (M.Management.price rule.now) localities.now points.now company ≡ Err e) }
+    {
+        let tables = Tables::new(localities, points).ok_or(Reason::PastTable.at(0))?;
+        let number = self.register.number;
+        let (found, _) = self.register.meets(number, company, Event::Close)?;
+        Ok(self.settlement(rule, tables, company, &found))
     }
 }

@@ -4,5 +4,6 @@
 mod closed;
 pub mod laws;
 pub mod order;
+mod payment;
 mod protocol;
 pub mod register;

@@ -7,9 +7,9 @@ ghost use Rattle.orders.specs.Orders.{decision, draw_decision, close_decision, r
 ghost use Rattle.orders.specs.Payments.{amount_paid, entries_paid};
 
 use crate::order::{DrawnOrder, Order, Returned, SentOrder};
+use crate::payment::advance_entry;
 use crate::register::{Register, company_place};
 use company::record::Event;
-use journal::entry::{Entry, Kind};
 use journal::journal::Journal;
 use units::amounts::Cents;
 use units::refusal::{Reason, Refusal};
@@ -150,13 +150,7 @@ impl Register {
         let event = Event::Confirm(order.instalment);
         let (company, instalment) = self.meets(order.book, order.company, event)?;
         let amount = company.terms.instalment(instalment);
-        journal.append(Entry {
-            kind: Kind::Advance,
-            company: order.company as u8,
-            place: u64::from(instalment),
-            amount,
-            ..Entry::default()
-        })?;
+        journal.append(advance_entry(order.company as u8, instalment, amount))?;
         self.act(order.book, order.company, event)?;
         Ok(amount)
     }

@@ -20,10 +20,10 @@ use Rattle.booklaws.specs.States.{BookState}
 use Rattle.orders.specs.Payments.{amount_paid, advance_entry}
 use Rattle.booklaws.specs.Companies.{decided, confirm_decision, confirmed_by}
 use Rattle.orders.specs.Orders.{settled}
-use Rattle.booklaws.specs.Closings.{settling, close_decision, balance_of, closed_by, balance_entry}
+use Rattle.booklaws.specs.Closings.{close_decision, balance_of, closed_by, balance_entry}
 use Rattle.booklaws.specs.Calls.{State, grants}
 use Rattle.booklaws.specs.JournalSums.{Advanced, change_at, advance_in, advances_of, payment_in, payment_to, paid_to}
-use Rattle.opened.specs.Figures.{settlement, price_for}
+use Rattle.opened.specs.Figures.{settling, settlement, price_for}
 use Rattle.units.proofs.Granted.{when_granted, next_granted, both_granted, same, within}
 use Rattle.booklaws.proofs.Events.{event_granted}
 use Rattle.booklaws.proofs.Noting.{advances_push, no_change}

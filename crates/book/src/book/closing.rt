@@ -5,14 +5,12 @@ ghost use Rattle.booklaws.specs.Closings.{close_answer, after_close, reopen_answ
 
 use super::Book;
 use crate::on_record::on_record_mut;
-use company::record::Event;
-use journal::entry::{Entry, Kind};
+use booklaws::entries::balance_entry;
 use journal::journal::Journal;
 use management::rule::Management;
-use revenue::book_tables::Tables;
 use tables::rows::{LocalityRow, PointRow};
 use units::amounts::Cents;
-use units::refusal::{Reason, Refusal};
+use units::refusal::Refusal;
 
 impl<J: Journal, M: Management> Book<J, M> {
     /// Closes a company's year: books the balance that is due, and answers it.
@@ -28,16 +26,9 @@ impl<J: Journal, M: Management> Book<J, M> {
             ≡ after_close (state J.Journal M.Management self.old) localities.now points.now company }
     {
         let opened = on_record_mut(&mut self.opened)?;
-        let tables = Tables::new(localities, points).ok_or(Reason::PastTable.at(0))?;
-        let number = opened.register.number;
-        let (found, _) = opened.register.meets(number, company, Event::Close)?;
-        let settled = opened.settlement(&self.rule, tables, company, &found);
-        self.journal.append(Entry {
-            kind: Kind::Balance,
-            company: company as u8,
-            amount: settled.due,
-            ..Entry::default()
-        })?;
+        let settled = opened.closing(&self.rule, localities, points, company)?;
+        let entry = balance_entry(company as u8, settled.due);
+        self.journal.append(entry)?;
         opened.register.close(company, settled.balances)?;
         Ok(settled.due)
     }

@@ -4,7 +4,7 @@ ghost use Rattle.book.specs.States.{state};
 ghost use Rattle.booklaws.specs.declared.answer.Granted.TheVariants.{Cancelled, Sent, Paid, Bounced};
 ghost use Rattle.orders.specs.Payments.{amount_paid};
 ghost use Rattle.booklaws.specs.Companies.{number_of, draw_decision, cancel_decision, send_decision, bounce_decision, confirm_decision, after_draw, after_cancel, after_send, after_bounce, after_confirm};
-ghost use Rattle.booklaws.specs.Calls.{grants, drawn_answer, answer_to, answer_asked, after_call, with_tables};
+ghost use Rattle.booklaws.specs.Calls.{grants, filed_row, drawn_answer, answer_to, answer_asked, after_call, with_tables};
 
 use super::Book;
 use crate::on_record::on_record_mut;
@@ -15,6 +15,13 @@ use management::rule::Management;
 use orders::order::Order;
 use tables::rows::{LocalityRow, PointRow, Row};
 use units::refusal::Refusal;
+
+// The row of a filing; past the end of the list a blank one.
+fn filed_row(filings: &[LocalityRow], filing: usize) -> LocalityRow
+    ensures { result ≡ filed_row filings.now filing }
+{
+    filings.get(filing).copied().unwrap_or(LocalityRow::blank())
+}
 
 impl<J: Journal, M: Management> Book<J, M> {
     // Answers a question.
@@ -127,10 +134,9 @@ impl<J: Journal, M: Management> Book<J, M> {
             Call::Register { company, terms } => self
                 .register(company, terms)
                 .map(|_| Granted::Registered),
-            Call::File { locality, filing } => {
-                let row = filings.get(filing).copied().unwrap_or(LocalityRow::blank());
-                self.file(localities, locality, row).map(|_| Granted::Filed)
-            }
+            Call::File { locality, filing } => self
+                .file(localities, locality, filed_row(filings, filing))
+                .map(|_| Granted::Filed),
             Call::Enrol { point, enrolment } => self
                 .enrol(localities, points, point, enrolment)
                 .map(|_| Granted::Enrolled),

@@ -8,10 +8,10 @@ ghost use Rattle.booklaws.specs.Rows.{filing, enrolling, bill_answer, after_bill
 
 use super::Book;
 use crate::on_record::on_record;
+use booklaws::entries::bill_entry;
 use calls::enrolling::Enrolment;
 use calls::filing::filing;
 use calls::records::Records;
-use journal::entry::{Entry, Kind};
 use journal::journal::Journal;
 use management::rule::Management;
 use tables::rows::{LocalityRow, PointRow};
@@ -81,18 +81,8 @@ impl<J: Journal, M: Management> Book<J, M> {
             points: &*points,
         };
         let (charged, row) = records.billing(&opened.tariff, point, change)?;
-        let bill = charged.bill;
-        self.journal.append(Entry {
-            kind: Kind::Bill,
-            company: charged.company,
-            place: point,
-            volume: change.volume,
-            days: change.days,
-            amount: bill.charge.tariff,
-            ug1: bill.charge.ug1,
-            other: bill.charge.gs,
-        })?;
+        self.journal.append(bill_entry(&charged, point, change))?;
         points[point as usize] = row;
-        Ok(bill)
+        Ok(charged.bill)
     }
 }
