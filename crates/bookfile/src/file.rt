@@ -19,7 +19,7 @@ use tables::rows::LocalityRow;
 use tariff::figures::TariffFigures;
 
 /// A call, and the number of its line, from 1.
-#[derive(Clone, Copy, Debug, PartialEq, Eq)]
+#[derive(Clone, Copy, Debug)]
 pub struct NumberedCall {
     pub line: usize,
     pub call: Call,
@@ -37,7 +37,7 @@ pub struct BookFile {
 }
 
 /// Why a book file is not read.
-#[derive(Clone, Copy, Debug, PartialEq, Eq)]
+#[derive(Clone, Copy, Debug)]
 pub enum Unread {
     Malformed { line: usize, what: Malformed },
     Memory,

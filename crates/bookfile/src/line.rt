@@ -7,7 +7,7 @@ ghost use Rattle.bookfile.specs.Syntax.{Good};
 use crate::statement::{MOST_FIGURES, Statement};
 
 /// A statement with its figures, each at the place of its name.
-#[derive(Clone, Copy, Debug, PartialEq, Eq)]
+#[derive(Clone, Copy, Debug)]
 pub struct Line {
     pub statement: Statement,
     pub figures: [Option<i128>; MOST_FIGURES],

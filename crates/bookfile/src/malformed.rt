@@ -3,7 +3,7 @@ use crate::statement::{Field, Statement};
 use std::error::Error;
 use std::fmt;
 
-#[derive(Clone, Copy, Debug, PartialEq, Eq)]
+#[derive(Clone, Copy, Debug)]
 pub enum Malformed {
     /// The line begins with no keyword.
     Keyword,

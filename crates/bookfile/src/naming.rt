@@ -5,7 +5,7 @@ ghost use Rattle.bookfile.specs.Naming.{Nameless, Named};
 use std::fmt;
 
 /// A figure of a tariff table. Areas, classes, brackets and asset rows count from 1.
-#[derive(Clone, Copy, Debug, PartialEq, Eq)]
+#[derive(Clone, Copy, Debug)]
 pub enum Figure {
     Days,
     Distribution { area: u64, class: u64 },
@@ -84,31 +84,44 @@ fn past_brackets(n: u64, brackets: u64) -> Option<Figure>
     }
 }
 
+impl Figure {
+    // What it is called, before its area, class, bracket or row.
+    fn name(self) -> &'static str {
+        match self {
+            Figure::Days => "days of the year",
+            Figure::Distribution { .. } => "line 1 (distribution)",
+            Figure::Metering { .. } => "line 2 (metering)",
+            Figure::Commercial => "line 3 (commercial)",
+            Figure::BracketCount => "number of brackets",
+            Figure::BracketEnd { .. } => "end of bracket",
+            Figure::BracketPrice { .. } => "reference price of bracket",
+            Figure::Coefficient { .. } => "coefficient of area",
+            Figure::Gs => "GS",
+            Figure::Ug1 => "UG1",
+            Figure::Rate => "rate of return",
+            Figure::Life { .. } => "useful life of asset row",
+            Figure::Cou => "cou",
+            Figure::Coa => "coa",
+            Figure::Telcon => "telcon",
+            Figure::Avv => "avv",
+            Figure::Ins => "ins",
+            Figure::Rac => "rac",
+        }
+    }
+}
+
 impl fmt::Display for Figure {
     fn fmt<W: fmt::Write>(&self, f: &mut fmt::Formatter<W>) -> fmt::Result {
+        f.write_str(self.name())?;
         match *self {
-            Figure::Days => write!(f, "days of the year"),
-            Figure::Distribution { area, class } => {
-                write!(f, "line 1 (distribution), area {area}, class {class}")
+            Figure::Distribution { area, class } | Figure::Metering { area, class } => {
+                write!(f, ", area {area}, class {class}")
             }
-            Figure::Metering { area, class } => {
-                write!(f, "line 2 (metering), area {area}, class {class}")
-            }
-            Figure::Commercial => write!(f, "line 3 (commercial)"),
-            Figure::BracketCount => write!(f, "number of brackets"),
-            Figure::BracketEnd { bracket } => write!(f, "end of bracket {bracket}"),
-            Figure::BracketPrice { bracket } => write!(f, "reference price of bracket {bracket}"),
-            Figure::Coefficient { area } => write!(f, "coefficient of area {area}"),
-            Figure::Gs => write!(f, "GS"),
-            Figure::Ug1 => write!(f, "UG1"),
-            Figure::Rate => write!(f, "rate of return"),
-            Figure::Life { row } => write!(f, "useful life of asset row {row}"),
-            Figure::Cou => write!(f, "cou"),
-            Figure::Coa => write!(f, "coa"),
-            Figure::Telcon => write!(f, "telcon"),
-            Figure::Avv => write!(f, "avv"),
-            Figure::Ins => write!(f, "ins"),
-            Figure::Rac => write!(f, "rac"),
+            Figure::BracketEnd { bracket: n }
+            | Figure::BracketPrice { bracket: n }
+            | Figure::Coefficient { area: n }
+            | Figure::Life { row: n } => write!(f, " {n}"),
+            _ => Ok(()),
         }
     }
 }

@@ -1,6 +1,6 @@
 // How the book is opened, as it is filed.
 
-#[derive(Clone, Copy, Debug, PartialEq, Eq)]
+#[derive(Clone, Copy, Debug)]
 pub struct OpeningFigures {
     /// The book's number.
     pub number: u64,

@@ -1,7 +1,7 @@
 // The figures of the book's management rule, as they are filed.
 use units::amounts::PointPrice;
 
-#[derive(Clone, Copy, Debug, PartialEq, Eq)]
+#[derive(Clone, Copy, Debug)]
 pub struct RuleFigures {
     /// Whether the rule is the area-wide one; otherwise it is the municipal one.
     pub wide: bool,

@@ -11,7 +11,7 @@ use crate::statement::Field;
 
 /// Which figures of a line go into the table: `count` of them from the first on, to slots from one on.
 /// Then the table has so many brackets.
-#[derive(Clone, Copy, Debug, PartialEq, Eq)]
+#[derive(Clone, Copy, Debug)]
 pub struct Span {
     pub slot: usize,
     pub first: usize,

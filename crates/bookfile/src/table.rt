@@ -5,7 +5,7 @@ mod puts;
 /// The figures that are given so far, each in its slot: the single ones, then distribution and metering by area
 /// and class, the coefficients, the lives, the brackets, each its end and its price, the management rule, and the opening. One array holds them all, so
 /// that one loop puts the figures of every statement; the number of brackets says where the next one goes.
-#[derive(Clone, Copy, Debug, PartialEq, Eq)]
+#[derive(Clone, Copy, Debug)]
 pub struct Table {
     slots: [Option<i128>; SLOTS],
     brackets: usize,

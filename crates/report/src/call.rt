@@ -9,29 +9,24 @@ use std::fmt;
 use tables::service::Service;
 
 /// The call whose answer follows.
-#[derive(Clone, Copy, Debug, PartialEq, Eq)]
+#[derive(Clone, Copy, Debug)]
 pub(crate) struct About(pub(crate) Call);
 
 impl fmt::Display for About {
     fn fmt<W: fmt::Write>(&self, f: &mut fmt::Formatter<W>) -> fmt::Result {
-        match self.0 {
-            Call::Register { company, terms: _ } => write!(f, "company {company}"),
-            Call::File {
-                locality,
-                filing: _,
-            } => write!(f, "locality {locality}"),
-            Call::Enrol {
-                point,
-                enrolment: _,
-            } => write!(f, "point {point}"),
-            Call::Bill { point, change: _ } => write!(f, "bill of point {point}"),
-            Call::Draw { company } => write!(f, "order for company {company}"),
+        let (what, place) = match self.0 {
+            Call::Register { company, .. } => ("company", company),
+            Call::File { locality, .. } => ("locality", locality),
+            Call::Enrol { point, .. } => ("point", point),
+            Call::Bill { point, .. } => ("bill of point", point),
+            Call::Draw { company } => ("order for company", company),
+            Call::Close { company } => ("closing of company", company),
+            Call::Reopen { company } => ("reopening of company", company),
             Call::Cancel(order) | Call::Send(order) | Call::Confirm(order) | Call::Bounce(order) =>
-                { write_order(f, order) }
-            Call::Close { company } => write!(f, "closing of company {company}"),
-            Call::Reopen { company } => write!(f, "reopening of company {company}"),
-            Call::Ask(question) => write_question(f, question),
-        }
+                { return write_order(f, order) }
+            Call::Ask(question) => return write_question(f, question),
+        };
+        write!(f, "{what} {place}")
     }
 }
 
@@ -44,22 +39,28 @@ fn write_order<W: fmt::Write>(f: &mut fmt::Formatter<W>, order: Order) -> fmt::R
 }
 
 fn write_question<W: fmt::Write>(f: &mut fmt::Formatter<W>, question: Question) -> fmt::Result {
-    match question {
+    let (what, company) = match question {
         Question::CapitalCost { locality, service } => {
-            write!(f, "capital cost of {}, locality {locality}", name(service))
+            return write_service(f, "capital cost", service, locality);
         }
         Question::UnitComponent { locality, service } => {
-            write!(
-                f,
-                "unit component of {}, locality {locality}",
-                name(service)
-            )
+            return write_service(f, "unit component", service, locality);
         }
-        Question::Served { company } => write!(f, "points served by company {company}"),
-        Question::Revenue { company } => write!(f, "recognised revenue of company {company}"),
-        Question::BalanceDue { company } => write!(f, "balance due to company {company}"),
-        Question::Account => f.write_str("account"),
-    }
+        Question::Served { company } => ("points served by company", company),
+        Question::Revenue { company } => ("recognised revenue of company", company),
+        Question::BalanceDue { company } => ("balance due to company", company),
+        Question::Account => return f.write_str("account"),
+    };
+    write!(f, "{what} {company}")
+}
+
+fn write_service<W: fmt::Write>(
+    f: &mut fmt::Formatter<W>,
+    what: &str,
+    service: Service,
+    locality: u64,
+) -> fmt::Result {
+    write!(f, "{what} of {}, locality {locality}", name(service))
 }
 
 fn name(service: Service) -> &'static str {

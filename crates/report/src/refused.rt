@@ -7,7 +7,7 @@ use std::fmt;
 use units::refusal::{Reason, Refusal};
 
 /// A statement that is refused. A figure that the refusal names by its number is printed with its name too.
-#[derive(Clone, Copy, Debug, PartialEq, Eq)]
+#[derive(Clone, Copy, Debug)]
 pub struct Refused {
     pub statement: Statement,
     pub refusal: Refusal,

@@ -78,7 +78,7 @@ fn write_component<W: fmt::Write>(
 }
 
 /// What a company's year comes to.
-#[derive(Clone, Copy, Debug, PartialEq, Eq)]
+#[derive(Clone, Copy, Debug)]
 struct CompanyYear {
     company: Company,
     served: Served,
