@@ -4,5 +4,6 @@
 pub mod answer;
 mod bill;
 mod call;
+pub mod failure;
 pub mod refused;
 pub mod year;

@@ -1,10 +1,9 @@
 // The program: reads book files, runs their calls, and prints what each of them answers and what the year then comes to.
 #![tactic(auto)]
 
-mod failure;
 mod run;
 
-use failure::Failure;
+use report::failure::Failure;
 use run::run_book;
 use std::process::ExitCode;
 use std::{env, fs, io};
@@ -53,8 +52,3 @@ fn run_input(rt: &HostRuntime) -> io::Result<ExitCode> {
         }
     }
 }
-
-#[cfg(test)]
-mod reading_tests;
-#[cfg(test)]
-mod tests;

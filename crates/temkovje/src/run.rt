@@ -1,7 +1,8 @@
 // A book file run from its text to what it prints.
-use crate::failure::Failure;
 use book::book::Book;
 use bookfile::file::{BookFile, read};
+use booklaws::answer::Granted;
+use calls::call::Call;
 use journal::entry::Entry;
 use journal::journal::Journal;
 use journal::lent_journal::LentJournal;
@@ -10,6 +11,7 @@ use management::area_wide::AreaWide;
 use management::municipal::Municipal;
 use management::rule::Management;
 use report::answer::write_answer;
+use report::failure::Failure;
 use report::year::{write_account, write_closed, write_company, write_locality};
 use std::alloc::Global;
 use std::fmt;
@@ -57,34 +59,53 @@ fn run_calls<J: Journal, M: Management>(
 ) -> Result<String, Failure> {
     let mut localities = vec![in heap; LocalityRow::blank(); MOST_LOCALITIES]?;
     let mut points = vec![in heap; PointRow::blank(); MOST_POINTS]?;
-    let localities = localities.as_mut_slice();
-    let points = points.as_mut_slice();
-    let opening = file.opening;
-    let filings = file.filings.as_slice();
-    let mut calls = Vec::new(heap);
-    for numbered in file.calls.iter() {
-        calls.push(numbered.call)?;
-    }
+    let calls = calls_of(heap, file)?;
     let unanswered = Err(Reason::BookNotOpen.at(0));
     let mut answers = vec![in heap; unanswered; calls.len()]?;
     run_year(
         book,
         tariff,
-        opening.number,
-        opening.sum,
-        localities,
-        points,
-        filings,
+        file.opening.number,
+        file.opening.sum,
+        localities.as_mut_slice(),
+        points.as_mut_slice(),
+        file.filings.as_slice(),
         calls.as_slice(),
         answers.as_mut_slice(),
     )
     .map_err(|refusal| Failure::Opening(refusal))?;
     let mut out = String::new(heap);
-    for (call, answer) in calls.iter().zip(answers.iter()) {
-        write_answer(&mut out, filings, *call, *answer)?;
-    }
-    write_year(&mut out, tariff, book, localities, points)?;
+    let filings = file.filings.as_slice();
+    write_answers(&mut out, filings, calls.as_slice(), answers.as_slice())?;
+    write_year(
+        &mut out,
+        tariff,
+        book,
+        localities.as_slice(),
+        points.as_slice(),
+    )?;
     Ok(out)
+}
+
+// The calls of a file, in their order.
+fn calls_of(heap: Global, file: &BookFile) -> Result<Vec<Call>, Failure> {
+    let mut calls = Vec::new(heap);
+    for numbered in file.calls.iter() {
+        calls.push(numbered.call)?;
+    }
+    Ok(calls)
+}
+
+fn write_answers<W: fmt::Write>(
+    out: &mut W,
+    filings: &[LocalityRow],
+    calls: &[Call],
+    answers: &[Result<Granted, Refusal>],
+) -> fmt::Result {
+    for (call, answer) in calls.iter().zip(answers.iter()) {
+        write_answer(out, filings, *call, *answer)?;
+    }
+    Ok(())
 }
 
 // What the year comes to: every locality that stands, every company that is registered, those that are closed, and the account.

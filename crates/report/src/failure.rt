@@ -1,11 +1,11 @@
 // Why a book file is not run, in print.
 ghost use Rattle.std.specs.Prelude.{◌≡◌};
-ghost use Rattle.temkovje.specs.declared.failure.Failure.TheVariants.{Input, Unread as UnreadFailure, Memory};
+ghost use Rattle.report.specs.declared.failure.Failure.TheVariants.{Input, Unread as UnreadFailure, Memory};
 
+use crate::refused::Refused;
 use bookfile::file::Unread;
 use bookfile::naming::figure_at;
 use bookfile::statement::Statement;
-use report::refused::Refused;
 use std::alloc::{AllocError, AllocFailed};
 use std::error::Error;
 use std::{fmt, io};
