@@ -37,6 +37,10 @@ lines_billed b localities points company = when_open b.opened (λ o. opened.line
 abbrev pub balance_due : BookState → List LocalityRow → List PointRow → (company : ℕ) → Result Cents Refusal
 balance_due b localities points company = when_open b.opened (λ o. opened.balance_due o b.price localities points company)
 
+-- what its year comes to
+abbrev pub company_year : BookState → List LocalityRow → List PointRow → (company : ℕ) → Result (Company × (ℕ × ℕ) × Revenue × Cents × Cents) Refusal
+company_year b localities points company = when_open b.opened (λ o. opened.company_year o b.price localities points company)
+
 -- ---- The account
 
 abbrev pub account : BookState → List PointRow → Result Cents Refusal

@@ -10,7 +10,9 @@ use Rattle.tables.specs.declared.service.Service.{Service}
 use Rattle.costs.specs.Costs as cost
 use Rattle.revenue.specs.declared.parts.Revenue.{Revenue}
 use Rattle.revenue.specs.Billed.{billed}
+use Rattle.company.specs.declared.record.Company.{Company}
 use Rattle.calls.specs.Decisions.{asked_locality}
+use Rattle.opened.specs.declared.company_year.CompanyYear.{CompanyYear}
 use Rattle.opened.specs.declared.record.Opened.{Opened}
 use Rattle.opened.specs.Figures.{asked, served_of, price_for, revenue_of, due, account_of}
 
@@ -41,6 +43,16 @@ lines_billed o localities points company =
 abbrev pub balance_due : Opened → (price : ℕ → ℕ → ℕ → ℕ) → List LocalityRow → List PointRow → (company : ℕ) → Result Cents Refusal
 balance_due o price localities points company =
     asked o localities points company (λ c. due o.tariff.figures (price_for price c) localities points company c)
+
+-- how a company stands, the points that it served, its recognised revenue, lines 1 to 4 of its points, and the balance due
+abbrev pub company_year : Opened → (price : ℕ → ℕ → ℕ → ℕ) → List LocalityRow → List PointRow → (company : ℕ) → Result (Company × (ℕ × ℕ) × Revenue × Cents × Cents) Refusal
+company_year o price localities points company =
+    asked o localities points company (λ c.
+    (c, served_of o localities points company c, revenue_of o.tariff.figures (price_for price c) localities points company c, record { 0 = pos (billed o.tariff.figures localities points company) }, due o.tariff.figures (price_for price c) localities points company c))
+
+-- the figures of it
+abbrev pub year_told : CompanyYear → Company × (ℕ × ℕ) × Revenue × Cents × Cents
+year_told y = (y.company, (y.served.regime.0, y.served.startup.0), y.revenue, y.billed, y.due)
 
 -- ---- The account
 

@@ -4,6 +4,7 @@
 
 mod account;
 mod company_costs;
+pub mod company_year;
 mod questions;
 pub mod record;
 pub mod settlement;

@@ -1,6 +1,8 @@
 // What a company's year comes to.
-ghost use Rattle.std.specs.Prelude.{◌≡◌, ℕ, pos, neg_ℤ, ◌≤ℤ◌, ◌<◌, Ok, Err, OnOk, MatchResult};
+ghost use Rattle.std.specs.Prelude.{◌≡◌, ℕ, pos, neg_ℤ, ◌≤◌, ◌≤ℤ◌, ◌-ℤ◌, ◌<◌, Ok, Err, OnOk, MatchResult};
 ghost use Rattle.company.specs.declared.record.Company.{Company};
+ghost use Rattle.company.specs.Events.{advances};
+ghost use Rattle.revenue.specs.Recognised.{total};
 ghost use Rattle.orders.specs.Orders.{close_decision, settled};
 ghost use Rattle.opened.specs.Figures.{price_for, settlement, due, closing};
 
@@ -9,6 +11,7 @@ use crate::record::Opened;
 use company::record::{Company, Event};
 use management::rule::Management;
 use revenue::book_tables::Tables;
+use revenue::book_tables::outcome::Outcome;
 use tables::rows::{LocalityRow, PointRow};
 use units::amounts::Cents;
 use units::refusal::{Reason, Refusal};
@@ -22,25 +25,16 @@ pub struct Settlement {
     pub balances: i64,
 }
 
-impl Opened {
-    // What bills and advances leave of a company's recognised revenue, in cents.
-    fn left_over<M: Management>(
-        &self,
-        rule: &M,
-        tables: Tables<'_>,
-        place: u64,
-        company: &Company,
-    ) -> i128
-        ensures value { result
-            ≡ settlement self.now.tariff.figures (price_for (M.Management.price rule.now) company.now)
-            tables.entry.localities.now tables.entry.points.now place company.now }
-        ensures small { (result ≤ℤ pos 20000000000000000) × (neg_ℤ (pos 20000000000000000) ≤ℤ result) }
-    {
-        let costs = costs_of(rule, &company.terms);
-        let year = tables.outcome(&self.tariff, costs, place);
-        year.revenue.total().0 - i128::from(year.billed) - company.advances().0
-    }
+// What bills and advances leave of a company's recognised revenue, in cents.
+pub(crate) fn left_over(year: &Outcome, company: &Company) -> i128
+    requires { (total year.now.revenue ≤ 1300000000000000) × (year.now.billed ≤ 13107219714670592) }
+    ensures value { result ≡ pos (total year.now.revenue) -ℤ pos year.now.billed -ℤ advances company.now }
+    ensures small { (result ≤ℤ pos 20000000000000000) × (neg_ℤ (pos 20000000000000000) ≤ℤ result) }
+{
+    year.revenue.total().0 - i128::from(year.billed) - company.advances().0
+}
 
+impl Opened {
     /// Settles the year of the company at a place, by a management rule.
     pub fn settlement<M: Management>(
         &self,
@@ -56,7 +50,9 @@ impl Opened {
             ≡ settlement self.now.tariff.figures (price_for (M.Management.price rule.now) company.now)
             tables.entry.localities.now tables.entry.points.now place company.now }
     {
-        let settlement = self.left_over(rule, tables, place, company);
+        let costs = costs_of(rule, &company.terms);
+        let year = tables.outcome(&self.tariff, costs, place);
+        let settlement = left_over(&year, company);
         Settlement {
             due: Cents(settlement - i128::from(company.balances)),
             balances: settlement as i64,

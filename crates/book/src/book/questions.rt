@@ -4,6 +4,7 @@ ghost use Rattle.std.specs.List.{slice_get};
 ghost use Rattle.limits.specs.Checked.{made_of};
 ghost use Rattle.book.specs.States.{state};
 ghost use Rattle.booklaws.specs.Questions as asked;
+ghost use Rattle.opened.specs.Questions.{year_told};
 
 use super::Book;
 use crate::on_record::on_record;
@@ -11,6 +12,7 @@ use company::record::Company;
 use journal::entry::Entry;
 use journal::journal::Journal;
 use management::rule::Management;
+use opened::company_year::CompanyYear;
 use revenue::parts::Revenue;
 use revenue::served::Served;
 use tables::rows::{LocalityRow, PointRow};
@@ -48,6 +50,20 @@ impl<J: Journal, M: Management> Book<J, M> {
         ensures { result ≡ asked.company (state J.Journal M.Management self.now) place }
     {
         on_record(&self.opened)?.register.asked(place)
+    }
+
+    /// What a company's year comes to: how it stands, the points that it served, its recognised revenue, lines 1 to 4 of its points, and the balance due, all in
+    /// one pass over the tables.
+    pub fn company_year(
+        &self,
+        localities: &[LocalityRow],
+        points: &[PointRow],
+        company: u64,
+    ) -> Result<CompanyYear, Refusal>
+        ensures { made_of year_told result
+            ≡ asked.company_year (state J.Journal M.Management self.now) localities.now points.now company }
+    {
+        on_record(&self.opened)?.company_year(&self.rule, localities, points, company)
     }
 
     /// Lines 1 to 4 of a company's points, at the volume and days on record.

@@ -20,6 +20,8 @@ use tariff::table::Tariff;
 /// What a company's year comes to.
 #[derive(Clone, Copy, Debug, PartialEq, Eq)]
 pub struct Outcome {
+    /// The points that it served.
+    pub served: Served,
     /// Its recognised revenue, part by part.
     pub revenue: Revenue,
     /// Lines 1 to 4 of its points, in cents.
@@ -76,6 +78,10 @@ impl<'a> Tables<'a> {
     /// What a company's year comes to, in one pass over each table. Its recognised revenue is near its exact value by 12 halves of a cent for
     /// each of the company's localities and 4 for itself.
     pub fn outcome(self, tariff: &Tariff, costs: Costs, company: u64) -> Outcome
+        ensures regime { result.served.regime.0
+            ≡ served tariff.now.figures self.entry.localities.now self.entry.points.now company Regime }
+        ensures startup { result.served.startup.0
+            ≡ served tariff.now.figures self.entry.localities.now self.entry.points.now company StartUp }
         ensures revenue { result.revenue
             ≡ recognised tariff.now.figures costs.operating.0 costs.verification costs.central
             self.entry.localities.now self.entry.points.now company }
@@ -90,6 +96,7 @@ impl<'a> Tables<'a> {
         let added = self.locality_figures(tariff, company);
         let (served, billed) = self.served_and_billed(tariff, company);
         Outcome {
+            served,
             revenue: served.revenue(tariff, costs, added),
             billed,
         }

@@ -19,6 +19,8 @@ returns c =
     let served = c.served_and_billed-billed.ensures in
     let value : c.revenue.result ≡ recognised t costs.operating.0 costs.verification costs.central ls ps company = c.revenue.ensures.value ∙ (λ j. parts_at t costs.operating.0 costs.verification costs.central (added j) (served.regime j) (served.startup j)) in
     record {
+      regime = served.regime;
+      startup = served.startup;
       revenue = value;
       billed = served.billed;
       near = subst (λ (r : Revenue). Near (exact_revenue t costs.operating.0 costs.verification costs.central ls ps company) (pos (total r)) (12 * count_if (owns company) ls + 4)) (sym value) (near_revenue t costs.operating.0 costs.verification costs.central ls ps company);
