@@ -1,8 +1,4 @@
-// What a call is about, in print, and the statement that makes it.
-ghost use Rattle.calls.specs.declared.call.Call.TheVariants.{Ask};
-ghost use Rattle.report.specs.Makers.{OnlyMaker};
-
-use bookfile::statement::Statement;
+// What a call is about, in print.
 use calls::call::{Call, Question};
 use orders::order::Order;
 use std::fmt;
@@ -67,42 +63,5 @@ fn name(service: Service) -> &'static str {
     match service {
         Service::Distribution => "distribution",
         Service::Metering => "metering",
-    }
-}
-
-impl About {
-    /// The statement that makes such a call.
-    #[tactic(auto, using(crate::proofs::Making::only_maker))]
-    pub(crate) fn statement(self) -> Statement
-        ensures { OnlyMaker self.0 result }
-    {
-        match self.0 {
-            Call::Register { .. } => Statement::Register,
-            Call::File { .. } => Statement::File,
-            Call::Enrol { .. } => Statement::Enrol,
-            Call::Bill { .. } => Statement::Bill,
-            Call::Draw { .. } => Statement::Draw,
-            Call::Cancel(_) => Statement::Cancel,
-            Call::Send(_) => Statement::Send,
-            Call::Confirm(_) => Statement::Confirm,
-            Call::Bounce(_) => Statement::Bounce,
-            Call::Close { .. } => Statement::Close,
-            Call::Reopen { .. } => Statement::Reopen,
-            Call::Ask(question) => statement_of(question),
-        }
-    }
-}
-
-#[tactic(auto, using(crate::proofs::Making::only_maker))]
-fn statement_of(question: Question) -> Statement
-    ensures { OnlyMaker (Ask question) result }
-{
-    match question {
-        Question::CapitalCost { .. } => Statement::Cost,
-        Question::UnitComponent { .. } => Statement::Component,
-        Question::Served { .. } => Statement::Served,
-        Question::Revenue { .. } => Statement::Revenue,
-        Question::BalanceDue { .. } => Statement::Balance,
-        Question::Account => Statement::Account,
     }
 }

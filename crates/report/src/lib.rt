@@ -1,9 +1,13 @@
 // What the calls of a book file answer and what its year comes to, in print.
 #![tactic(auto)]
 
-pub mod answer;
+mod answer;
 mod bill;
 mod call;
 pub mod failure;
-pub mod refused;
+mod owed;
+mod refused;
+mod standing;
+pub mod summary;
+pub mod telling;
 pub mod year;

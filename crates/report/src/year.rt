@@ -1,27 +1,27 @@
 // What a year comes to, in print: the costs of each locality, and the revenue that is recognised to each company.
-ghost use Rattle.std.specs.Prelude.{◌≡◌, map, Ok, IfOk, is_ok};
-ghost use Rattle.book.specs.States.{state};
-ghost use Rattle.booklaws.specs.Questions as asked;
-ghost use Rattle.report.specs.Listed.{parts_listed};
-
 use crate::answer::state_words;
+use crate::owed::Owed;
+use crate::refused::Told;
+use crate::standing::Stands;
 use book::book::Book;
-use company::record::{Company, Phase};
 use costs::capital::{capital_cost, unit_component};
 use costs::figure::locality_figure;
 use costs::regime::additions;
 use journal::journal::Journal;
 use limits::MOST_COMPANIES;
 use management::rule::Management;
+use opened::company_year::CompanyYear;
 use revenue::parts::Revenue;
-use revenue::served::Served;
 use std::fmt;
 use tables::locality::Locality;
 use tables::rows::{LocalityRow, PointRow};
 use tables::service::Service;
 use tariff::table::Tariff;
+use told::listed::parts;
+use told::standing::Standing;
+use told::thing::Thing;
 use units::amounts::Cents;
-use units::refusal::Refusal;
+use units::refusal::{Reason, Refusal};
 
 /// A locality's capital costs, what a locality in regime adds to them, and its unit components.
 pub fn write_locality<W: fmt::Write>(
@@ -73,56 +73,15 @@ fn write_component<W: fmt::Write>(
 ) -> fmt::Result {
     match component {
         Ok(component) => writeln!(out, "  {name:<31}{component:>20} millionths of a euro"),
-        Err(refusal) => writeln!(out, "  {name}: {refusal}"),
+        Err(refusal) => {
+            let thing = Thing::Locality;
+            writeln!(out, "  {name}: {}", Told { thing, refusal })
+        }
     }
 }
 
-/// What a company's year comes to.
-#[derive(Clone, Copy, Debug)]
-struct CompanyYear {
-    company: Company,
-    served: Served,
-    revenue: Revenue,
-    billed: Cents,
-    due: Cents,
-}
-
-impl CompanyYear {
-    fn of<J: Journal, M: Management>(
-        book: &Book<J, M>,
-        localities: &[LocalityRow],
-        points: &[PointRow],
-        place: u64,
-    ) -> Result<CompanyYear, Refusal>
-        ensures test { is_ok result
-            ≡ is_ok (asked.balance_due (state J.Journal M.Management book.now) localities.now points.now place) }
-        ensures company { IfOk result
-            (λ y. asked.company (state J.Journal M.Management book.now) place ≡ Ok y.company) }
-        ensures served { IfOk result
-            (λ y. asked.served (state J.Journal M.Management book.now) localities.now points.now place
-            ≡ Ok (y.served.regime.0, y.served.startup.0)) }
-        ensures revenue { IfOk result
-            (λ y. asked.revenue (state J.Journal M.Management book.now) localities.now points.now place
-            ≡ Ok y.revenue) }
-        ensures billed { IfOk result
-            (λ y. asked.lines_billed (state J.Journal M.Management book.now) localities.now points.now place
-            ≡ Ok y.billed) }
-        ensures due { IfOk result
-            (λ y. asked.balance_due (state J.Journal M.Management book.now) localities.now points.now place
-            ≡ Ok y.due) }
-    {
-        Ok(CompanyYear {
-            company: book.company(place)?,
-            served: book.served(localities, points, place)?,
-            revenue: book.revenue(localities, points, place)?,
-            billed: book.billed(localities, points, place)?,
-            due: book.balance_due(localities, points, place)?,
-        })
-    }
-}
-
-/// The points that a company served, the revenue that is recognised to it, part by part, and the balance that is due; nothing where no company is
-/// registered.
+/// How a company stands, the points that it served, the revenue that is recognised to it, part by part, and the balance that is due, with who owes it; nothing where no
+/// company is registered.
 pub fn write_company<W: fmt::Write, J: Journal, M: Management>(
     out: &mut W,
     book: &Book<J, M>,
@@ -130,35 +89,43 @@ pub fn write_company<W: fmt::Write, J: Journal, M: Management>(
     points: &[PointRow],
     place: u64,
 ) -> fmt::Result {
-    let Ok(year) = CompanyYear::of(book, localities, points, place) else {
-        return Ok(());
-    };
-    writeln!(
-        out,
-        "\ncompany {place}, {}: {} points served in regime, {} in start-up",
-        phase_words(year.company.phase),
-        year.served.regime,
-        year.served.startup
-    )?;
-    write_revenue(out, &year.revenue)?;
-    write_amount(out, "less lines 1 to 4 billed", year.billed)?;
-    write_amount(out, "less advances", year.company.advances())?;
-    write_amount(
-        out,
-        "less balances",
-        Cents(i128::from(year.company.balances)),
-    )?;
-    write_amount(out, "balance due", year.due)
+    match book.company_year(localities, points, place) {
+        Ok(year) => write_year_of(out, place, &year),
+        Err(
+            Refusal {
+                reason: Reason::NothingThere,
+                ..
+            },
+        ) => Ok(()),
+        Err(refusal) => {
+            let thing = Thing::Company;
+            writeln!(out, "\ncompany {place}: {}", Told { thing, refusal })
+        }
+    }
 }
 
-// How a company stands.
-fn phase_words(phase: Phase) -> &'static str {
-    match phase {
-        Phase::Free => "open",
-        Phase::Drawn(_) => "open with an order drawn",
-        Phase::Sent(_) => "open with an order sent",
-        Phase::Closed => "closed",
+fn write_year_of<W: fmt::Write>(out: &mut W, place: u64, year: &CompanyYear) -> fmt::Result {
+    let standing = Stands(Standing::of(&year.company));
+    writeln!(out, "\ncompany {place}, {standing}")?;
+    writeln!(
+        out,
+        "  {} points served in regime, {} in start-up",
+        year.served.regime, year.served.startup
+    )?;
+    write_revenue(out, &year.revenue)?;
+    for (name, amount) in [
+        ("less lines 1 to 4 billed", year.billed),
+        ("less advances", year.company.advances()),
+        ("less balances", Cents(i128::from(year.company.balances))),
+        ("balance due", year.due),
+    ] {
+        write_amount(out, name, amount)?;
     }
+    let owed = Owed {
+        company: place,
+        balance: year.due,
+    };
+    writeln!(out, "  {owed}")
 }
 
 /// The companies that are closed.
@@ -167,13 +134,28 @@ pub fn write_closed<W: fmt::Write, J: Journal, M: Management>(
     book: &Book<J, M>,
 ) -> fmt::Result {
     let mut list = [0; MOST_COMPANIES];
-    let count = book.closed_companies(&mut list).unwrap_or(0);
-    write!(out, "\nclosed companies:")?;
-    if count == 0 {
-        return writeln!(out, " none");
+    out.write_str("\nclosed companies: ")?;
+    match book.closed_companies(&mut list) {
+        Ok(count) => write_list(out, &list, count),
+        Err(refusal) => {
+            let thing = Thing::Place;
+            writeln!(out, "{}", Told { thing, refusal })
+        }
     }
-    for company in list.iter().take(count) {
-        write!(out, " {company}")?;
+}
+
+// The first companies of a list; `none` if they are none.
+fn write_list<W: fmt::Write>(
+    out: &mut W,
+    list: &[u64; MOST_COMPANIES],
+    count: usize,
+) -> fmt::Result {
+    if count == 0 {
+        return writeln!(out, "none");
+    }
+    for (i, company) in list.iter().take(count).enumerate() {
+        let mark = if i == 0 { "" } else { ", " };
+        write!(out, "{mark}company {company}")?;
     }
     writeln!(out)
 }
@@ -186,7 +168,10 @@ pub fn write_account<W: fmt::Write, J: Journal, M: Management>(
 ) -> fmt::Result {
     match book.account(points) {
         Ok(Cents(account)) => writeln!(out, "\nequalisation account: {account} cents"),
-        Err(refusal) => writeln!(out, "\nequalisation account: {refusal}"),
+        Err(refusal) => {
+            let thing = Thing::Place;
+            writeln!(out, "\nequalisation account: {}", Told { thing, refusal })
+        }
     }
 }
 
@@ -196,21 +181,6 @@ pub(crate) fn write_revenue<W: fmt::Write>(out: &mut W, revenue: &Revenue) -> fm
         write_cents(out, name, cents)?;
     }
     write_amount(out, "recognised revenue", revenue.total())
-}
-
-// The parts of recognised revenue, each by its name.
-fn parts(revenue: &Revenue) -> [(&'static str, u64); 7]
-    ensures { map (λ p. (p.0.now, p.1)) result ≡ parts_listed revenue.now }
-{
-    [
-        ("localities", revenue.localities),
-        ("operating", revenue.operating),
-        ("start-up", revenue.startup),
-        ("installation and readings", revenue.readings),
-        ("commercial", revenue.commercial),
-        ("verification", revenue.verification),
-        ("central cost", revenue.central),
-    ]
 }
 
 fn write_amount<W: fmt::Write>(out: &mut W, name: &str, amount: Cents) -> fmt::Result {

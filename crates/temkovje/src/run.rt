@@ -10,8 +10,8 @@ use limits::MOST_COMPANIES;
 use management::area_wide::AreaWide;
 use management::municipal::Municipal;
 use management::rule::Management;
-use report::answer::write_answer;
-use report::failure::Failure;
+use report::summary::Summed;
+use report::telling::write_said;
 use report::year::{write_account, write_closed, write_company, write_locality};
 use std::alloc::Global;
 use std::fmt;
@@ -19,12 +19,29 @@ use tables::lengths::{MOST_LOCALITIES, MOST_POINTS};
 use tables::lookup::record_at;
 use tables::rows::{LocalityRow, PointRow, Row};
 use tariff::table::Tariff;
+use told::failure::Failure;
+use told::saying::Saying;
+use told::so_far::SoFar;
+use told::summary::Summary;
 use units::amounts::PointPrice;
 use units::refusal::{Reason, Refusal};
 use yearly::run::run_year;
 
-/// Reads a book file and runs its calls; a file that is malformed, or whose tariff table, management rule or opening is refused, runs none.
-pub fn run_book(heap: Global, text: &str) -> Result<String, Failure> {
+/// A book file on its way to print: the file's name, and whether it stands above what is printed of it.
+#[derive(Clone, Copy)]
+pub struct Named<'a> {
+    pub file: &'a str,
+    pub is_told: bool,
+}
+
+/// Reads a book file, runs its calls, and prints what they answered and what the year comes to. A file that is malformed, or whose tariff table, management rule or
+/// opening is refused, runs none, and nothing of it is printed.
+pub fn run_book<W: fmt::Write>(
+    heap: Global,
+    out: &mut W,
+    name: Named<'_>,
+    text: &str,
+) -> Result<(), Failure> {
     let file = read(heap, text)?;
     let brackets = file.tariff.count;
     let tariff = Tariff::try_from(file.tariff).map_err(|refusal| Failure::Tariff {
@@ -32,31 +49,35 @@ pub fn run_book(heap: Global, text: &str) -> Result<String, Failure> {
         brackets,
     })?;
     if file.rule.wide {
-        run_by::<AreaWide>(heap, &tariff, &file)
+        run_by::<AreaWide, W>(heap, out, name, &tariff, &file)
     } else {
-        run_by::<Municipal>(heap, &tariff, &file)
+        run_by::<Municipal, W>(heap, out, name, &tariff, &file)
     }
 }
 
 // Runs the file's calls by a management rule, over a journal with room for an entry of each.
-fn run_by<M: Management + TryFrom<[PointPrice; 9], Error = Refusal> + Drop>(
+fn run_by<M: Management + TryFrom<[PointPrice; 9], Error = Refusal> + Drop, W: fmt::Write>(
     heap: Global,
+    out: &mut W,
+    name: Named<'_>,
     tariff: &Tariff,
     file: &BookFile,
-) -> Result<String, Failure> {
+) -> Result<(), Failure> {
     let rule = M::try_from(file.rule.prices).map_err(|refusal| Failure::Rule(refusal))?;
     let room = file.calls.len().min(file.opening.capacity as usize);
     let mut entries = vec![in heap; Entry::default(); room]?;
     let mut book = Book::new(LentJournal::new(entries.as_mut_slice()), rule);
-    run_calls(heap, tariff, file, &mut book)
+    run_calls(heap, out, name, tariff, file, &mut book)
 }
 
-fn run_calls<J: Journal, M: Management>(
+fn run_calls<J: Journal, M: Management, W: fmt::Write>(
     heap: Global,
+    out: &mut W,
+    name: Named<'_>,
     tariff: &Tariff,
     file: &BookFile,
     book: &mut Book<J, M>,
-) -> Result<String, Failure> {
+) -> Result<(), Failure> {
     let mut localities = vec![in heap; LocalityRow::blank(); MOST_LOCALITIES]?;
     let mut points = vec![in heap; PointRow::blank(); MOST_POINTS]?;
     let calls = calls_of(heap, file)?;
@@ -74,17 +95,13 @@ fn run_calls<J: Journal, M: Management>(
         answers.as_mut_slice(),
     )
     .map_err(|refusal| Failure::Opening(refusal))?;
-    let mut out = String::new(heap);
-    let filings = file.filings.as_slice();
-    write_answers(&mut out, filings, calls.as_slice(), answers.as_slice())?;
-    write_year(
-        &mut out,
-        tariff,
-        book,
-        localities.as_slice(),
-        points.as_slice(),
-    )?;
-    Ok(out)
+    drop(calls);
+    write_answers(heap, out, name, file, answers.as_slice())?;
+    write_year(out, tariff, book, localities.as_slice(), points.as_slice())?;
+    if name.is_told {
+        writeln!(out)?;
+    }
+    Ok(())
 }
 
 // The calls of a file, in their order.
@@ -96,15 +113,27 @@ fn calls_of(heap: Global, file: &BookFile) -> Result<Vec<Call>, Failure> {
     Ok(calls)
 }
 
+// The calls with what they were answered, under the file's name if it is told, and how many of them were granted.
 fn write_answers<W: fmt::Write>(
+    heap: Global,
     out: &mut W,
-    filings: &[LocalityRow],
-    calls: &[Call],
+    name: Named<'_>,
+    file: &BookFile,
     answers: &[Result<Granted, Refusal>],
-) -> fmt::Result {
-    for (call, answer) in calls.iter().zip(answers.iter()) {
-        write_answer(out, filings, *call, *answer)?;
+) -> Result<(), Failure> {
+    let mut saying = Saying {
+        so_far: SoFar::new(heap)?,
+        summary: Summary::default(),
+    };
+    let filings = file.filings.as_slice();
+    if name.is_told {
+        writeln!(out, "{}", name.file)?;
     }
+    for (numbered, answer) in file.calls.iter().zip(answers.iter()) {
+        let said = saying.next(*numbered, *answer);
+        write_said(out, name.file, filings, numbered.call, &said)?;
+    }
+    writeln!(out, "\n{}", Summed(saying.summary))?;
     Ok(())
 }
 

@@ -7,7 +7,7 @@ use Rattle.calls.specs.declared.call.Question.TheVariants as question
 use Rattle.bookfile.specs.declared.statement.Statement.{Statement}
 use Rattle.bookfile.specs.declared.statement.Statement.TheVariants.{Tariff, Distribution, Metering, Bracket, Coefficient, Life, Management, Opening, Journal, Register, File, Enrol, Bill, Draw, Cancel, Send, Confirm, Bounce, Close, Reopen, Cost, Component, Served, Revenue, Balance, Account}
 use Rattle.bookfile.specs.Calls.{call_of}
-use Rattle.report.specs.Makers.{OnlyMaker}
+use Rattle.told.specs.Makers.{OnlyMaker}
 
 abbrev pub asking : Question → Statement
 asking (question.CapitalCost place service) = Cost

@@ -1,0 +1,9 @@
+pub mod Listed
+pub mod Places
+pub mod Makers
+pub mod Things
+pub mod SoFar
+pub mod Saying
+pub mod Owing
+pub mod Standings
+pub mod Counts
