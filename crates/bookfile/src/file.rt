@@ -97,7 +97,7 @@ pub fn read(heap: Global, text: &str) -> Result<BookFile, Unread>
 }
 
 // Reads a line: what it says of the tariff table, the management rule and the opening goes into the table.
-fn read_line(table: &mut Table, row: &str) -> Result<Option<Line>, Malformed>
+pub(crate) fn read_line(table: &mut Table, row: &str) -> Result<Option<Line>, Malformed>
     ensures ok { IfOk result (Step row.now table.old table.new) }
     ensures err { IfErr result (Fault row.now table.old) }
 {

@@ -2,11 +2,13 @@
 #![tactic(auto)]
 
 pub mod call;
+pub mod faults;
 pub mod file;
 mod filing;
 pub mod laws;
 mod line;
 pub mod malformed;
+pub mod mark;
 pub mod naming;
 mod numbers;
 pub mod opening;

@@ -5,6 +5,7 @@ mod reads;
 ghost use Rattle.bookfile.specs.Syntax.{Good};
 
 use crate::statement::{MOST_FIGURES, Statement};
+pub(crate) use reads::before_comment;
 
 /// A statement with its figures, each at the place of its name.
 #[derive(Clone, Copy, Debug)]

@@ -326,15 +326,16 @@ impl Field {
     }
 }
 
+impl Field {
+    /// The figure's name.
+    pub(crate) fn name(self) -> Option<&'static str> {
+        self.statement.names().get(self.place).copied()
+    }
+}
+
 impl fmt::Display for Field {
     fn fmt<W: fmt::Write>(&self, f: &mut fmt::Formatter<W>) -> fmt::Result {
-        f.write_str(
-            self.statement
-                .names()
-                .get(self.place)
-                .copied()
-                .unwrap_or(""),
-        )
+        f.write_str(self.name().unwrap_or(""))
     }
 }
 

@@ -5,6 +5,7 @@ mod answer;
 mod bill;
 mod call;
 pub mod failure;
+pub mod malformed;
 mod owed;
 mod refused;
 mod standing;

@@ -4,8 +4,10 @@
 mod output;
 mod run;
 
+use bookfile::file::Unread;
 use output::Output;
 use report::failure::NotRun;
+use report::malformed::write_malformed;
 use run::{Named, run_book};
 use std::fmt::Write;
 use std::process::ExitCode;
@@ -23,7 +25,7 @@ fn main(rt: HostRuntime) -> io::Result<ExitCode> {
     let files = args.len().saturating_sub(1);
     if files == 0 {
         let text = io::read_to_string(rt.alloc(), rt.stdin());
-        let ran = run_text(&rt, INPUT, text)?;
+        let ran = run_file(&rt, INPUT, text)?;
         return Ok(code_of(ran));
     }
     let mut all = true;
@@ -33,7 +35,7 @@ fn main(rt: HostRuntime) -> io::Result<ExitCode> {
             file: path.as_str(),
             is_told: files > 1,
         };
-        if !run_text(&rt, name, text)? {
+        if !run_file(&rt, name, text)? {
             all = false;
         }
     }
@@ -49,25 +51,36 @@ fn code_of(ran: bool) -> ExitCode {
 }
 
 // Runs a book file, and answers whether it was run.
-fn run_text(rt: &HostRuntime, name: Named<'_>, text: io::Result<String>) -> io::Result<bool> {
-    let mut out = Output::new(rt.alloc(), io::writer(rt))?;
-    let ran = print_text(rt, &mut out, name, text);
-    out.finish()?;
-    match ran {
-        Ok(()) => Ok(true),
-        Err(failure) => {
-            eprintln!(rt; "{}: {}", name.file, NotRun(failure))?;
+fn run_file(rt: &HostRuntime, name: Named<'_>, text: io::Result<String>) -> io::Result<bool> {
+    match text {
+        Ok(text) => run_text(rt, name, text.as_str()),
+        Err(error) => {
+            tell(rt, name.file, "", Failure::Input(error))?;
             Ok(false)
         }
     }
 }
 
-fn print_text<W: Write>(
-    rt: &HostRuntime,
-    out: &mut W,
-    name: Named<'_>,
-    text: io::Result<String>,
-) -> Result<(), Failure> {
-    let text = text?;
-    run_book(rt.alloc(), out, name, text.as_str())
+fn run_text(rt: &HostRuntime, name: Named<'_>, text: &str) -> io::Result<bool> {
+    let mut out = Output::new(rt.alloc(), io::writer(rt))?;
+    let ran = run_book(rt.alloc(), &mut out, name, text);
+    out.finish()?;
+    match ran {
+        Ok(()) => Ok(true),
+        Err(failure) => {
+            tell(rt, name.file, text, failure)?;
+            Ok(false)
+        }
+    }
+}
+
+// Tells on the standard error why a file was not run: of a malformed one each malformed line.
+fn tell(rt: &HostRuntime, file: &str, text: &str, failure: Failure) -> io::Result<()> {
+    let mut out = Output::new(rt.alloc(), rt.stderr())?;
+    // (an error of writing is kept, and answered in the end)
+    let _ = match failure {
+        Failure::Unread(Unread::Malformed { .. }) => write_malformed(&mut out, file, text),
+        failure => writeln!(out, "{file}: {}", NotRun(failure)),
+    };
+    out.finish()
 }

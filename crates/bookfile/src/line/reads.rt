@@ -29,7 +29,7 @@ impl Line {
     }
 }
 
-fn before_comment(line: &str) -> &str
+pub(crate) fn before_comment(line: &str) -> &str
     ensures { Before line.now result.now }
 {
     // A `match`: tried by `map_or`, and the proof did not close.
