@@ -21,7 +21,7 @@ use told::listed::parts;
 use told::standing::Standing;
 use told::thing::Thing;
 use units::amounts::Cents;
-use units::refusal::{Reason, Refusal};
+use units::refusal::Refusal;
 
 /// A locality's capital costs, what a locality in regime adds to them, and its unit components.
 pub fn write_locality<W: fmt::Write>(
@@ -80,8 +80,8 @@ fn write_component<W: fmt::Write>(
     }
 }
 
-/// How a company stands, the points that it served, the revenue that is recognised to it, part by part, and the balance that is due, with who owes it; nothing where no
-/// company is registered.
+/// How a company stands, the points that it served, the revenue that is recognised to it, part by part, and the balance that is due, with who owes it; or why there
+/// is none.
 pub fn write_company<W: fmt::Write, J: Journal, M: Management>(
     out: &mut W,
     book: &Book<J, M>,
@@ -91,12 +91,6 @@ pub fn write_company<W: fmt::Write, J: Journal, M: Management>(
 ) -> fmt::Result {
     match book.company_year(localities, points, place) {
         Ok(year) => write_year_of(out, place, &year),
-        Err(
-            Refusal {
-                reason: Reason::NothingThere,
-                ..
-            },
-        ) => Ok(()),
         Err(refusal) => {
             let thing = Thing::Company;
             writeln!(out, "\ncompany {place}: {}", Told { thing, refusal })

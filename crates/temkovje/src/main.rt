@@ -5,71 +5,83 @@ mod output;
 mod run;
 
 use bookfile::file::Unread;
+use clap::ArgMatches;
+use options::{command, options_of};
 use output::Output;
 use report::failure::NotRun;
 use report::malformed::write_malformed;
-use run::{Named, run_book};
+use run::{Job, run_book};
 use std::fmt::Write;
 use std::process::ExitCode;
 use std::{env, fs, io};
 use told::failure::Failure;
 
-/// What the standard input is called.
-static INPUT: Named<'static> = Named {
-    file: "-",
-    is_told: false,
-};
+const VERSION: &str = "1.0, rattle-kit-13f logic dac8208d650f15bf";
 
-fn main(rt: HostRuntime) -> io::Result<ExitCode> {
-    let args = env::args(&rt)?;
-    let files = args.len().saturating_sub(1);
-    if files == 0 {
-        let text = io::read_to_string(rt.alloc(), rt.stdin());
-        let ran = run_file(&rt, INPUT, text)?;
-        return Ok(code_of(ran));
-    }
-    let mut all = true;
-    for path in args.skip(1) {
-        let text = fs::read_to_string(&rt, path.as_str());
-        let name = Named {
-            file: path.as_str(),
-            is_told: files > 1,
-        };
-        if !run_file(&rt, name, text)? {
-            all = false;
-        }
-    }
-    Ok(code_of(all))
-}
-
-fn code_of(ran: bool) -> ExitCode {
-    if ran {
-        ExitCode::SUCCESS
-    } else {
-        ExitCode::FAILURE
-    }
-}
-
-// Runs a book file, and answers whether it was run.
-fn run_file(rt: &HostRuntime, name: Named<'_>, text: io::Result<String>) -> io::Result<bool> {
-    match text {
-        Ok(text) => run_text(rt, name, text.as_str()),
+fn main(rt: HostRuntime) -> anyhow::Result<ExitCode> {
+    let heap = rt.alloc();
+    let words: Vec<String> = env::args(&rt)?.collect(heap)?;
+    let command = command(heap, VERSION)?;
+    match command.try_get_matches_from(words.as_slice()) {
+        Ok(matches) => run_files(&rt, &matches),
         Err(error) => {
-            tell(rt, name.file, "", Failure::Input(error))?;
-            Ok(false)
+            error.print(&rt)?;
+            Ok(ExitCode::from(error.exit_code() as u8))
         }
     }
 }
 
-fn run_text(rt: &HostRuntime, name: Named<'_>, text: &str) -> io::Result<bool> {
+// Runs the files of the command line, and answers the exit status: 1 where one was not run, else 3 where a call was refused and that is asked for.
+fn run_files(rt: &HostRuntime, matches: &ArgMatches<'_>) -> anyhow::Result<ExitCode> {
+    let options = options_of(matches);
+    let files = matches.get_strs("file").unwrap_or(INPUT.as_slice());
+    let (mut is_run, mut is_clean) = (true, true);
+    for file in files.iter() {
+        let job = Job {
+            file: *file,
+            is_told: files.len() > 1,
+            options,
+        };
+        match run_file(rt, job)? {
+            Some(granted) => is_clean = is_clean && granted,
+            None => is_run = false,
+        }
+    }
+    let is_refused = options.is_strict && !is_clean;
+    Ok(ExitCode::from(match (is_run, is_refused) {
+        (false, _) => 1,
+        (true, true) => 3,
+        (true, false) => 0,
+    }))
+}
+
+// The standard input's name.
+static INPUT: [&str; 1] = ["-"];
+
+// Runs a book file, and answers whether every call was granted; nothing where it was not run.
+fn run_file(rt: &HostRuntime, job: Job<'_>) -> io::Result<Option<bool>> {
+    let text = match job.file {
+        "-" => io::read_to_string(rt.alloc(), rt.stdin()),
+        path => fs::read_to_string(rt, path),
+    };
+    match text {
+        Ok(text) => run_text(rt, job, text.as_str()),
+        Err(error) => {
+            tell(rt, job.file, "", Failure::Input(error))?;
+            Ok(None)
+        }
+    }
+}
+
+fn run_text(rt: &HostRuntime, job: Job<'_>, text: &str) -> io::Result<Option<bool>> {
     let mut out = Output::new(rt.alloc(), io::writer(rt))?;
-    let ran = run_book(rt.alloc(), &mut out, name, text);
+    let ran = run_book(rt.alloc(), &mut out, job, text);
     out.finish()?;
     match ran {
-        Ok(()) => Ok(true),
+        Ok(granted) => Ok(Some(granted)),
         Err(failure) => {
-            tell(rt, name.file, text, failure)?;
-            Ok(false)
+            tell(rt, job.file, text, failure)?;
+            Ok(None)
         }
     }
 }
