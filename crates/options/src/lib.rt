@@ -5,6 +5,8 @@ ghost use Rattle.std.specs.Prelude.{◌≡◌, None, codes};
 ghost use Rattle.clap.specs.Words.{found_of, one_text};
 ghost use Rattle.options.specs.Flags.{IsFlag};
 
+pub mod template;
+
 use clap::{Arg, ArgAction, ArgMatches, Command};
 use std::alloc::{AllocError, Global};
 
@@ -19,6 +21,8 @@ pub struct Options {
     pub company: Option<u64>,
     /// The program ends with 3 where a call was refused.
     pub is_strict: bool,
+    /// A book file to begin with, and no file is run.
+    pub is_template: bool,
 }
 
 static ABOUT: &str =
@@ -52,6 +56,11 @@ pub fn command<'a>(heap: Global, version: &'a str) -> Result<Command<'a>, AllocE
     let year = flag(heap, "year", "Print the year's statement alone").conflicts_with("refused")?;
     let refused = flag(heap, "refused", "Print the refused calls and the statement");
     let strict = flag(heap, "strict", "End with status 3 if a call was refused");
+    let template = flag(
+        heap,
+        "template",
+        "Print a book file with every statement, which runs as it is",
+    );
     let company = Arg::new(heap, "company")
         .long("company")
         .value_name("N")
@@ -70,6 +79,7 @@ pub fn command<'a>(heap: Global, version: &'a str) -> Result<Command<'a>, AllocE
         .arg(refused)?
         .arg(company)?
         .arg(strict)?
+        .arg(template)?
         .arg(files)
 }
 
@@ -78,6 +88,7 @@ pub fn options_of(matches: &ArgMatches<'_>) -> Options
     ensures year { IsFlag (found_of matches.now) (codes "year") result.is_year }
     ensures refused { IsFlag (found_of matches.now) (codes "refused") result.only_refused }
     ensures strict { IsFlag (found_of matches.now) (codes "strict") result.is_strict }
+    ensures template { IsFlag (found_of matches.now) (codes "template") result.is_template }
     ensures company { one_text (found_of matches.now) (codes "company") ≡ None → result.company ≡ None }
 {
     Options {
@@ -85,5 +96,6 @@ pub fn options_of(matches: &ArgMatches<'_>) -> Options
         only_refused: matches.get_flag("refused"),
         company: matches.get_one::<u64>("company"),
         is_strict: matches.get_flag("strict"),
+        is_template: matches.get_flag("template"),
     }
 }

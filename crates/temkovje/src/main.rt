@@ -6,6 +6,7 @@ mod run;
 
 use bookfile::file::Unread;
 use clap::ArgMatches;
+use options::template::TEMPLATE;
 use options::{command, options_of};
 use output::Output;
 use report::failure::NotRun;
@@ -34,6 +35,10 @@ fn main(rt: HostRuntime) -> anyhow::Result<ExitCode> {
 // Runs the files of the command line, and answers the exit status: 1 where one was not run, else 3 where a call was refused and that is asked for.
 fn run_files(rt: &HostRuntime, matches: &ArgMatches<'_>) -> anyhow::Result<ExitCode> {
     let options = options_of(matches);
+    if options.is_template {
+        rt.print(TEMPLATE)?;
+        return Ok(ExitCode::SUCCESS);
+    }
     let files = matches.get_strs("file").unwrap_or(INPUT.as_slice());
     let (mut is_run, mut is_clean) = (true, true);
     for file in files.iter() {
