@@ -1,9 +1,9 @@
 -- Reading figures word by word: whatever the rest of the words gives, the whole gives.
-use Rattle.std.proofs.Common.{◌≡◌, ℕ, ◌<◌, false, List, [], ◌∷◌, ◌++◌, map, length, replicate, get_or, set, bytes_eq, position, Bor, cond, nat_lt, ◌≤◌, ℤ, is_some, Some, None, Option, sym, refl, ap, ◌∙◌, subst, arith, SFits, to_z, of_z}
+use Rattle.std.proofs.Common.{◌≡◌, ◌≢◌, ℕ, ◌<◌, true, false, not, List, [], ◌∷◌, ◌++◌, map, length, replicate, get_or, set, bytes_eq, position, Bor, cond, nat_lt, ◌≤◌, ℤ, is_some, Some, None, Option, sym, refl, ap, ◌∙◌, subst, ⊎_elim, arith, SFits, to_z, of_z}
 use mir.Syntax.{w128}
 use Rattle.std.proofs.lemmas.Int.{to_z-of_z}
-use Rattle.std.proofs.lemmas.List.{length-map, get_or-map}
-use Rattle.std.proofs.lemmas.Bool.{true≢false}
+use Rattle.std.proofs.lemmas.List.{length-map, get_or-map, get_or-replicate, get_or-set_other, get_or_past}
+use Rattle.std.proofs.lemmas.Bool.{cases_lt, true≢false}
 use Rattle.std.proofs.lemmas.Bool.Decides.{nat_tests}
 use Rattle.std.proofs.lemmas.List.Quantifiers.{position-Some}
 use Rattle.std.proofs.lemmas.List.Sums.{fails_before_first}
@@ -13,8 +13,10 @@ use Rattle.std.specs.Str.Parse.{signed_digits_value}
 use Rattle.std.specs.Char.{is_whitespace, is_not_whitespace}
 use Rattle.std.specs.Str.{NoCharPasses, EmptyOrStartsWithPassing}
 use Rattle.bookfile.specs.declared.statement.Statement.{Statement}
+use Rattle.bookfile.specs.declared.statement.Statement.TheVariants.{Tariff, Distribution, Metering, Bracket, Coefficient, Life, Management, Opening, Journal, Register, File, Enrol, Bill, Draw, Cancel, Send, Confirm, Bounce, Close, Reopen, Cost, Component, Served, Revenue, Balance, Account}
 use Rattle.bookfile.specs.Faults.{Opens, Spells}
-use Rattle.bookfile.specs.Grammar.{keyword_of, names_of, Plain, First, Words, Gives, Filled, Before, Speaks}
+use Rattle.bookfile.specs.Grammar.{keyword_of, names_of, Plain, First, Words, Gives, Filled, NoneBeyond, Before, Speaks}
+use Rattle.bookfile.specs.Syntax.{allowed, needed, Good}
 
 pub not_given : (o : Option ℤ) → false ≡ is_some o → o ≡ None
 not_given None e = refl
@@ -109,3 +111,51 @@ module _ {s : Statement} {text rest : List ℕ} {before now : List (Option ℤ)}
 
   pub read_all : Words rest [] → (vs : List (List ℕ)) × Words text vs × Filled s vs before now
   read_all none = (old.words, opens_all text old.words rest old.opens none, old.filled)
+
+-- words give no figure past the names of their statement
+pub none_beyond : (s : Statement) (ws : List (List ℕ)) (before all : List (Option ℤ)) → Filled s ws before all → NoneBeyond s before → NoneBeyond s all
+none_beyond s [] before all e none = subst (NoneBeyond s) (sym e) none
+none_beyond s (w ∷ ws) before all (j, z, gives, free, filled) none =
+    let still : NoneBeyond s (set before j (Some z)) = λ k past. (let apart : k ≢ j = λ e. omega (arith, gives.place, past, e) in get_or-set_other before j k (Some z) None apart ∙ none k past) in
+    none_beyond s ws (set before j (Some z)) all filled still
+
+pub nothing_given : (s : Statement) → NoneBeyond s (replicate 46 None)
+nothing_given s i h = ⊎_elim (λ in_list. get_or-replicate 46 i None None in_list) (λ past. get_or_past (replicate 46 None) i None past) (cases_lt i 46)
+
+-- nor is one needed there
+pub unneeded : (s : Statement) (i : ℕ) → length (names_of s) ≤ i → needed s i ≡ false
+unneeded Tariff i h = refl
+unneeded Distribution i h = grind (arith, nat_tests)
+unneeded Metering i h = grind (arith, nat_tests)
+unneeded Bracket i h = grind (arith, nat_tests)
+unneeded Coefficient i h = grind (arith, nat_tests)
+unneeded Life i h = grind (arith, nat_tests)
+unneeded Management i h = refl
+unneeded Opening i h = refl
+unneeded Journal i h = grind (arith, nat_tests)
+unneeded Register i h = grind (arith, nat_tests)
+unneeded File i h = grind (arith, nat_tests)
+unneeded Enrol i h = grind (arith, nat_tests)
+unneeded Bill i h = grind (arith, nat_tests)
+unneeded Draw i h = grind (arith, nat_tests)
+unneeded Cancel i h = grind (arith, nat_tests)
+unneeded Send i h = grind (arith, nat_tests)
+unneeded Confirm i h = grind (arith, nat_tests)
+unneeded Bounce i h = grind (arith, nat_tests)
+unneeded Close i h = grind (arith, nat_tests)
+unneeded Reopen i h = grind (arith, nat_tests)
+unneeded Cost i h = grind (arith, nat_tests)
+unneeded Component i h = grind (arith, nat_tests)
+unneeded Served i h = grind (arith, nat_tests)
+unneeded Revenue i h = grind (arith, nat_tests)
+unneeded Balance i h = grind (arith, nat_tests)
+unneeded Account i h = refl
+
+-- so each figure may be so, where those with a name may
+pub all_good : (s : Statement) (zs : List (Option ℤ)) → NoneBeyond s zs → ((i : ℕ) → i < length (names_of s) → allowed s i (get_or zs i None) ≡ true) → Good s zs
+all_good s zs none named i h =
+    ⊎_elim (λ low. named i low) (λ high. ap (allowed s i) (none i high) ∙ ap not (unneeded s i high)) (cases_lt i (length (names_of s)))
+
+-- a statement that asks for no figure, and gets none
+pub nothing_good : Good Account (replicate 46 None)
+nothing_good i h = ap (allowed Account i) (get_or-replicate 46 i None None h)

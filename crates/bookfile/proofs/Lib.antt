@@ -2,6 +2,7 @@ mod Placing
 mod Filling
 mod LineCounts
 mod SoFar
+mod Told
 mod Figuring
 mod Cutting
 mod Apart

@@ -58,7 +58,7 @@ rows_more : (bs : List ℕ) (rows : List (List ℕ)) (rest row next : List ℕ) 
 rows_more bs [] rest row next e some is = (next, subst (λ b. 0 < length b) e some, subst (λ b. Row b row next) e is, refl)
 rows_more bs (r ∷ rs) rest row next (more, full, first, cut) some is = (more, full, first, rows_more more rs rest row next cut some is)
 
-rows_all : (bs : List ℕ) (rows : List (List ℕ)) (rest : List ℕ) → RowsBefore bs rows rest → length rest ≡ 0 → Rows bs rows
+pub rows_all : (bs : List ℕ) (rows : List (List ℕ)) (rest : List ℕ) → RowsBefore bs rows rest → length rest ≡ 0 → Rows bs rows
 rows_all bs [] rest e none = subst (λ b. length b ≡ 0) e none
 rows_all bs (r ∷ rs) rest (more, full, first, cut) none = (more, full, first, rows_all more rs rest cut none)
 

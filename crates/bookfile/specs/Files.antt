@@ -4,6 +4,7 @@ use Rattle.std.specs.Str.Lines.{IsFirstLine as Row}
 use Rattle.std.specs.List.{AllByRecursion}
 use Rattle.tables.specs.declared.rows.LocalityRow.{LocalityRow}
 use Rattle.calls.specs.declared.call.Call.{Call}
+use Rattle.bookfile.specs.declared.faults.LineFault.{LineFault}
 use Rattle.bookfile.specs.declared.file.BookFile.{BookFile}
 use Rattle.bookfile.specs.declared.file.NumberedCall.{NumberedCall}
 use Rattle.bookfile.specs.declared.file.Unread.{Unread}
@@ -131,6 +132,20 @@ pub record FirstFault (text : List ℕ) (line : ℕ) (what : Malformed) : Type 0
 abbrev pub Placed : List ℕ → Unread → Type 0
 Placed text (MalformedAt line what) = LineOf text line × FirstFault text line what
 Placed text Memory = Unit {0}
+
+-- a text has no line at fault: its rows say lines that the table takes
+pub record WithoutFault (text : List ℕ) : Type 0 where
+  pub rows : List (List ℕ)
+  pub cut : Rows text rows
+  pub lines : List Numbered
+  pub say : RowsSay 1 rows lines
+  pub table : Table
+  pub puts : after_lines empty_table lines ≡ Some table
+
+-- what is told first of a text is its first line at fault, with the fault of this line
+abbrev pub FirstTold : List ℕ → Option LineFault → Type 0
+FirstTold text None = WithoutFault text
+FirstTold text (Some f) = LineOf text f.line × FirstFault text f.line f.what
 
 -- a row leaves a table as it is and says nothing, or says a line that makes another table of it
 abbrev pub Step : List ℕ → Table → Table → Option Line → Type 0

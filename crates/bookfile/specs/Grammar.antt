@@ -1,5 +1,5 @@
 -- What a line of a book file says.
-use Rattle.std.specs.Prelude.{◌≡◌, ℕ, ◌+◌, ◌<◌, ◌⊎◌, List, [], ◌∷◌, ◌++◌, map, length, replicate, ℤ, Some, None, Ok, Err, codes, Option, Result, FitsSigned, ◌≢◌, slice_index, slice_index_or, slice_set}
+use Rattle.std.specs.Prelude.{◌≡◌, ℕ, ◌+◌, ◌<◌, ◌≤◌, Bool, true, false, ◌⊎◌, List, [], ◌∷◌, ◌++◌, map, length, replicate, ℤ, Some, None, Ok, Err, codes, Option, Result, FitsSigned, ◌≢◌, slice_index, slice_index_or, slice_set}
 use Rattle.std.specs.Int.{w128}
 use Rattle.std.specs.List.{range_with_len, flat_map}
 use Rattle.std.specs.Str.Parse.{IsNumeral, without_leading_sign, signed_digits_value}
@@ -113,6 +113,10 @@ Filled s [] before all = all ≡ before
 Filled s (w ∷ ws) before all =
     (i : ℕ) × (z : ℤ) × Gives s w i z × (slice_index_or before i None ≡ None) × Filled s ws (slice_set before i (Some z)) all
 
+-- past the names of a statement nothing is given
+abbrev pub NoneBeyond : Statement → List (Option ℤ) → Type 0
+NoneBeyond s zs = (i : ℕ) → length (names_of s) ≤ i → slice_index_or zs i None ≡ None
+
 -- the part of a line before its comment, which begins with a number sign
 abbrev pub Before : List ℕ → List ℕ → Type 0
 Before line text =
@@ -127,3 +131,8 @@ Silent line = (text : List ℕ) × Before line text × Words text []
 abbrev pub Speaks : List ℕ → Statement → List (Option ℤ) → Type 0
 Speaks line s figures =
     (text : List ℕ) × (ws : List (List ℕ)) × Before line text × Words text (keyword_of s ∷ ws) × Filled s ws (replicate 46 None) figures
+
+-- a line says a statement with its figures, or nothing
+abbrev pub SpeaksIf : List ℕ → Statement → List (Option ℤ) → Bool → Type 0
+SpeaksIf line s figures true = Speaks line s figures
+SpeaksIf line s figures false = Silent line

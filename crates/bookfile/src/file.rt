@@ -1,5 +1,5 @@
 // A book file as a whole: its tariff table, its management rule, its opening and its calls, or its first malformed line.
-ghost use Rattle.std.specs.Prelude.{◌≡◌, ◌++◌, length, IfOk, IfErr, MatchResult, OnOk};
+ghost use Rattle.std.specs.Prelude.{◌≡◌, ◌++◌, length, Some, None, IfOk, IfErr, MatchResult, OnOk, if◌then◌else◌};
 ghost use Rattle.bookfile.specs.declared.file.Unread.TheVariants.{Memory};
 ghost use Rattle.bookfile.specs.Faults.{Fault};
 ghost use Rattle.bookfile.specs.Files.{Says, Placed, Step, line_filings, line_calls};
@@ -77,10 +77,14 @@ pub fn read(heap: Global, text: &str) -> Result<BookFile, Unread>
     let mut table = Table::new();
     let mut filings = Vec::new(heap);
     let mut calls = Vec::new(heap);
+    let mut said = Line::new();
     for (i, row) in text.lines().enumerate() {
         let line = i + 1;
-        let said = read_line(&mut table, row).map_err(|what| Unread::Malformed { line, what })?;
-        if let Some(said) = said {
+        let speaks = read_line(&mut table, &mut said, row).map_err(|what| Unread::Malformed {
+            line,
+            what,
+        })?;
+        if speaks {
             list_line(&said, line, &mut filings, &mut calls)?;
         }
     }
@@ -96,16 +100,17 @@ pub fn read(heap: Global, text: &str) -> Result<BookFile, Unread>
     })
 }
 
-// Reads a line: what it says of the tariff table, the management rule and the opening goes into the table.
-pub(crate) fn read_line(table: &mut Table, row: &str) -> Result<Option<Line>, Malformed>
-    ensures ok { IfOk result (Step row.now table.old table.new) }
+// Reads a row into a line, and answers whether it says a statement: what it says of the tariff table, the management rule and the opening goes into the table.
+pub(crate) fn read_line(table: &mut Table, said: &mut Line, row: &str) -> Result<bool, Malformed>
+    ensures ok { IfOk result
+        (λ speaks. Step row.now table.old table.new (if speaks then Some said.new else None)) }
     ensures err { IfErr result (Fault row.now table.old) }
 {
-    let Some(line) = Line::read(row)? else {
-        return Ok(None);
-    };
-    table.put(&line)?;
-    Ok(Some(line))
+    if !said.read(row)? {
+        return Ok(false);
+    }
+    table.put(said)?;
+    Ok(true)
 }
 
 // Adds the row that a line files and the call that it makes to the lists.

@@ -1,4 +1,4 @@
-// A line of a book file: a keyword, then figures as name=number.
+// A line of a book file: a keyword, then figures as name=number. One line holds what each row of a file says, one after the other: its figures are many to move.
 mod figures;
 mod reads;
 

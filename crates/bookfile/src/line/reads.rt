@@ -1,10 +1,10 @@
 // Reading a line, and the figures that it gives.
-ghost use Rattle.std.specs.Prelude.{◌≡◌, ◌<◌, ℕ, List, replicate, None, is_ok, IfErr, IfOk, MatchOption, OnOk, bytes_eq, position, slice_index_or};
+ghost use Rattle.std.specs.Prelude.{◌≡◌, ◌<◌, ℕ, ◌⊎◌, List, replicate, None, is_ok, IfErr, IfOk, MatchOption, OnOk, bytes_eq, position, slice_index_or};
 ghost use Rattle.std.specs.Str.Parse.{signed_digits_value};
 ghost use Rattle.std.specs.Str.Iter.{split_whitespace_rest};
 ghost use Rattle.bookfile.specs.declared.statement.TheConstants.{MOST_FIGURES};
 ghost use Rattle.bookfile.specs.Faults.{BadFigure, BadWord, Misread, WordFault, figure_fault};
-ghost use Rattle.bookfile.specs.Grammar.{Before, Filled, Gives, Plain, Silent, Speaks, Words};
+ghost use Rattle.bookfile.specs.Grammar.{Before, Filled, Gives, NoneBeyond, Plain, SpeaksIf, Words};
 ghost use Rattle.bookfile.specs.Syntax.{allowed, Good};
 
 use super::Line;
@@ -13,19 +13,35 @@ use crate::statement::{Field, MOST_FIGURES, Statement};
 use std::str::SplitWhitespace;
 
 impl Line {
-    /// Reads a line; one that is empty or a comment says nothing.
-    pub(crate) fn read(line: &str) -> Result<Option<Line>, Malformed>
-        ensures ok { IfOk result (λ o. MatchOption o (Silent line.now) (λ l. Speaks line.now l.statement l.figures)) }
-        ensures err { IfErr result (Misread line.now) }
+    /// A line of no figures.
+    pub(crate) fn new() -> Line {
+        Line {
+            statement: Statement::Account,
+            figures: [None; MOST_FIGURES],
+        }
+    }
+
+    /// Reads a row, and answers whether it says a statement, which this line then is; one that is empty or a comment says nothing.
+    pub(crate) fn read(&mut self, row: &str) -> Result<bool, Malformed>
+        ensures ok { IfOk result (SpeaksIf row.now self.new.statement self.new.figures) }
+        ensures err { IfErr result (Misread row.now) }
     {
-        let mut words = before_comment(line).split_whitespace();
+        let mut words = before_comment(row).split_whitespace();
         let Some(keyword) = words.next() else {
-            return Ok(None);
+            return Ok(false);
         };
         let statement = keyword.parse::<Statement>()?;
-        let figures = read_figures(statement, words)?;
-        check_figures(statement, &figures)?;
-        Ok(Some(Line { statement, figures }))
+        match read_statement(statement, words, &mut self.figures) {
+            Ok(()) => {
+                self.statement = statement;
+                Ok(true)
+            }
+            Err(what) => {
+                self.statement = Statement::Account;
+                self.figures = [None; MOST_FIGURES];
+                Err(what)
+            }
+        }
     }
 }
 
@@ -39,22 +55,43 @@ pub(crate) fn before_comment(line: &str) -> &str
     }
 }
 
-// The figures of a statement's words, each at the place of its name.
+// Reads the figures of a statement, and tests them.
+fn read_statement(
+    statement: Statement,
+    words: SplitWhitespace<'_>,
+    figures: &mut [Option<i128>; MOST_FIGURES],
+) -> Result<(), Malformed>
+    ensures good { OnOk result (Good statement figures.new) }
+    ensures ok { OnOk result
+        ((ws : List (List ℕ)) × Words (split_whitespace_rest words.entry) ws
+        × Filled statement ws (replicate MOST_FIGURES None) figures.new) }
+    ensures err { IfErr result
+        (λ what. BadWord statement (split_whitespace_rest words.entry) what
+        ⊎ (((ws : List (List ℕ)) × Words (split_whitespace_rest words.entry) ws
+        × Filled statement ws (replicate MOST_FIGURES None) figures.new)
+        × BadFigure statement figures.new what)) }
+{
+    read_figures(statement, words, figures)?;
+    check_figures(statement, figures)
+}
+
+// Puts the figures of a statement's words each to the place of its name, and nothing to the other places.
 fn read_figures(
     statement: Statement,
     words: SplitWhitespace<'_>,
-) -> Result<[Option<i128>; MOST_FIGURES], Malformed>
-    ensures ok { IfOk result
-        (λ figures. (ws : List (List ℕ)) × Words (split_whitespace_rest words.entry) ws
-        × Filled statement ws (replicate MOST_FIGURES None) figures) }
+    figures: &mut [Option<i128>; MOST_FIGURES],
+) -> Result<(), Malformed>
+    ensures ok { OnOk result
+        ((ws : List (List ℕ)) × Words (split_whitespace_rest words.entry) ws
+        × Filled statement ws (replicate MOST_FIGURES None) figures.new) }
     ensures err { IfErr result (BadWord statement (split_whitespace_rest words.entry)) }
 {
-    let mut figures = [None; MOST_FIGURES];
+    *figures = [None; MOST_FIGURES];
     for word in words {
-        let (place, n) = read_figure(statement, word, &figures)?;
+        let (place, n) = read_figure(statement, word, figures)?;
         figures[place] = Some(n);
     }
-    Ok(figures)
+    Ok(())
 }
 
 // The place and the number of the figure that a word gives, beside those that are given before.
@@ -100,10 +137,12 @@ fn check_figures(
     statement: Statement,
     figures: &[Option<i128>; MOST_FIGURES],
 ) -> Result<(), Malformed>
+    requires { NoneBeyond statement figures.now }
     ensures ok { OnOk result (Good statement figures.now) }
     ensures err { IfErr result (BadFigure statement figures.now) }
 {
-    for (place, figure) in figures.iter().enumerate() {
+    let named = &figures[..statement.names().len()];
+    for (place, figure) in named.iter().enumerate() {
         check_figure(Field { statement, place }, *figure)?;
     }
     Ok(())
