@@ -7,26 +7,23 @@ use tariff::supply::{Change, Reading, Supply};
 use tariff::table::Tariff;
 
 // The table has 1 for a domestic customer.
-fn supply(numbers: &mut Numbers<'_>) -> anyhow::Result<Supply> {
-    Supply::new(
-        numbers.take()?,
-        numbers.take()?,
-        numbers.take::<u64>()? == 1,
+fn supply(numbers: &mut Numbers<u64>) -> anyhow::Result<Supply> {
+    Supply::new(numbers.take(), numbers.take(), numbers.take() == 1).context(
+        "an area or class beyond its limits",
     )
-    .context("an area or class beyond its limits")
 }
 
-fn reading(numbers: &mut Numbers<'_>) -> anyhow::Result<Reading> {
-    Reading::new(numbers.take()?, numbers.take()?).context("a volume or days beyond their limits")
+fn reading(numbers: &mut Numbers<u64>) -> anyhow::Result<Reading> {
+    Reading::new(numbers.take(), numbers.take()).context("a volume or days beyond their limits")
 }
 
 fn compare_line(
     tally: &mut Tally<'_>,
-    table: &Tariff,
-    numbers: &mut Numbers<'_>,
+    table: anyhow::Result<&Tariff>,
+    numbers: &mut Numbers<u64>,
 ) -> anyhow::Result<()> {
-    let supply = supply(numbers)?;
-    let found = table.amounts(supply, reading(numbers)?);
+    let (supply, reading) = (supply(numbers)?, reading(numbers)?);
+    let found = table?.amounts(supply, reading);
     for (what, amount) in [
         ("distribution", found.distribution),
         ("metering", found.metering),
@@ -35,7 +32,7 @@ fn compare_line(
         ("gs", found.gs),
         ("ug1", found.ug1),
     ] {
-        tally.compare(what, amount, numbers.take()?)?;
+        tally.compare(what, amount, numbers.take())?;
     }
     Ok(())
 }
@@ -48,8 +45,8 @@ pub fn run(rt: &HostRuntime) -> anyhow::Result<()> {
 pub fn boundaries(rt: &HostRuntime) -> anyhow::Result<()> {
     let tables = tariffs(rt)?;
     let table = tables.get(0).context("no tariff table")?;
-    let supply = supply(&mut Numbers::of("1 1 0"))?;
-    let start = reading(&mut Numbers::of("0 0"))?;
+    let supply = supply(&mut Numbers::of(rt.alloc(), "1 1 0")?)?;
+    let start = reading(&mut Numbers::of(rt.alloc(), "0 0")?)?;
     for days in [365, 366] {
         match table.bill(supply, start, Change { volume: 0, days }) {
             Ok(bill) => println!(rt; "{days} days: {} cents", bill.charge.tariff)?,

@@ -3,7 +3,7 @@ use std::fmt::Display;
 use std::fs;
 
 /// A count of compared figures; each that differs is printed.
-#[derive(Drop)]
+#[derive(Clone, Copy)]
 pub struct Tally<'a> {
     rt: &'a HostRuntime,
     line: u64,

@@ -3,6 +3,7 @@ use crate::compare::{Tally, compare_table};
 use crate::numbers::Numbers;
 use company::figures::TermsFigures;
 use company::terms::Terms;
+use std::alloc::Global;
 use units::amounts::Cents;
 
 /// An advance in so many instalments, and the least of all else.
@@ -18,16 +19,25 @@ fn figures(advance: i64, instalments: u8) -> TermsFigures {
     }
 }
 
-fn compare_line(tally: &mut Tally<'_>, line: &str) -> anyhow::Result<()> {
-    let mut numbers = Numbers::of(line);
-    let (advance, count) = (numbers.take()?, numbers.take::<u8>()?);
+fn compare_line(heap: Global, tally: &mut Tally<'_>, line: &str) -> anyhow::Result<()> {
+    let mut numbers = Numbers::<i64>::of(heap, line)?;
+    let (advance, count) = (numbers.take(), u8::try_from(numbers.take())?);
     let terms = Terms::try_from(figures(advance, count))?;
     for j in 1..=count {
-        tally.compare("instalment", terms.instalment(j), Cents(numbers.take()?))?;
+        tally.compare(
+            "instalment",
+            terms.instalment(j),
+            Cents(i128::from(numbers.take())),
+        )?;
     }
     numbers.finish()
 }
 
 pub fn run(rt: &HostRuntime) -> anyhow::Result<()> {
-    compare_table(rt, "instalments.txt", compare_line)
+    let heap = rt.alloc();
+    compare_table(
+        rt,
+        "instalments.txt",
+        |tally, line| compare_line(heap, tally, line),
+    )
 }

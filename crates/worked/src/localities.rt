@@ -11,24 +11,24 @@ use tables::rows::{AssetRow, LocalityRow, Row};
 use tables::service::Service;
 use tariff::table::Tariff;
 
-fn asset_row(numbers: &mut Numbers<'_>) -> anyhow::Result<AssetRow> {
-    Ok(AssetRow {
-        gross: numbers.take()?,
-        net: numbers.take()?,
-        works: numbers.take()?,
-        contributions: numbers.take()?,
-        remaining: numbers.take()?,
-    })
+fn asset_row(numbers: &mut Numbers<u64>) -> AssetRow {
+    AssetRow {
+        gross: numbers.take(),
+        net: numbers.take(),
+        works: numbers.take(),
+        contributions: numbers.take(),
+        remaining: numbers.take(),
+    }
 }
 
-fn locality(numbers: &mut Numbers<'_>) -> anyhow::Result<Locality> {
+fn locality(numbers: &mut Numbers<u64>) -> anyhow::Result<Locality> {
     let row = LocalityRow {
         company: 0,
-        state: numbers.take()?,
+        state: numbers.take(),
         area: 1,
-        expected: numbers.take()?,
-        smart: numbers.take()?,
-        rows: array::try_from_fn(|_| asset_row(numbers))?,
+        expected: numbers.take(),
+        smart: numbers.take(),
+        rows: array::from_fn(|_| asset_row(numbers)),
     };
     row.record().context("a locality beyond its limits")
 }
@@ -43,9 +43,10 @@ fn component(locality: &Locality, table: &Tariff, service: Service) -> u64 {
 
 fn compare_line(
     tally: &mut Tally<'_>,
-    table: &Tariff,
-    numbers: &mut Numbers<'_>,
+    table: anyhow::Result<&Tariff>,
+    numbers: &mut Numbers<u64>,
 ) -> anyhow::Result<()> {
+    let table = table?;
     let locality = locality(numbers)?;
     for (what, found) in [
         (
@@ -66,7 +67,7 @@ fn compare_line(
         ),
         ("locality", locality_figure(&locality, table)),
     ] {
-        tally.compare(what, found, numbers.take()?)?;
+        tally.compare(what, found, numbers.take())?;
     }
     Ok(())
 }

@@ -1,44 +1,46 @@
 // The numbers of a line of a table.
-use anyhow::Context;
+use anyhow::anyhow;
+use std::alloc::Global;
 use std::num::ParseIntError;
-use std::str::{FromStr, SplitWhitespace};
-
-const WRONG_COUNT: &str = "a line of a table has too few numbers or too many";
+use std::str::FromStr;
+use std::vec;
 
 /// Numbers that are taken one after the other.
 #[derive(Drop)]
-pub struct Numbers<'a> {
-    rest: SplitWhitespace<'a>,
+pub struct Numbers<N: Drop> {
+    rest: vec::IntoIter<N>,
+    is_short: bool,
 }
 
-impl<'a> Numbers<'a> {
-    pub fn of(line: &'a str) -> Numbers<'a> {
-        Numbers {
-            rest: line.split_whitespace(),
+impl<N: Copy + Default + Drop + FromStr<Err = ParseIntError>> Numbers<N> {
+    /// The numbers of a line, which holds nothing else.
+    pub fn of(heap: Global, line: &str) -> anyhow::Result<Numbers<N>> {
+        let mut list = Vec::new(heap);
+        for word in line.split_whitespace() {
+            list.push(word.parse::<N>()?)?;
         }
+        Ok(Numbers {
+            rest: list.into_iter(),
+            is_short: false,
+        })
     }
 
-    /// The next number, of the kind that is asked for; an error past the last.
-    pub fn take<N: FromStr<Err = ParseIntError>>(&mut self) -> anyhow::Result<N> {
-        let word = self.rest.next().context(WRONG_COUNT)?;
-        Ok(word.parse::<N>()?)
-    }
-
-    /// The next numbers.
-    pub fn list<const N: usize>(&mut self) -> anyhow::Result<[u64; N]> {
-        // A loop: tried by `array::try_from_fn`, which asks that N of its slots fit in memory, and no bound says that of N.
-        let mut list = [0; N];
-        for item in list.iter_mut() {
-            *item = self.take()?;
-        }
-        Ok(list)
-    }
-
-    /// An error unless each number was taken.
-    pub fn finish(&mut self) -> anyhow::Result<()> {
+    /// The next number. Past the last it is 0, so that what is wrong with the numbers before is told first.
+    pub fn take(&mut self) -> N {
         match self.rest.next() {
-            Some(_) => Err(anyhow::Error::msg(WRONG_COUNT)),
-            None => Ok(()),
+            Some(number) => number,
+            None => {
+                self.is_short = true;
+                N::default()
+            }
         }
+    }
+
+    /// An error unless each number was taken, and no more.
+    pub fn finish(&mut self) -> anyhow::Result<()> {
+        if self.is_short || self.rest.next().is_some() {
+            return Err(anyhow!("a line of a table has too few numbers or too many"));
+        }
+        Ok(())
     }
 }

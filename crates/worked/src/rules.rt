@@ -6,6 +6,8 @@ use management::area_wide::AreaWide;
 use management::municipal::Municipal;
 use management::rule::Management;
 use management::traits::Traits;
+use std::alloc::Global;
+use std::array;
 use units::amounts::PointPrice;
 use units::refusal::Refusal;
 
@@ -16,14 +18,14 @@ fn price_by<M: Management + TryFrom<[PointPrice; 9], Error = Refusal> + Drop>(
     density: u64,
     year: u64,
 ) -> anyhow::Result<u64> {
-    let rule = M::try_from(prices).context("a rule is refused")?;
+    let rule = M::try_from(prices).ok().context("a rule is refused")?;
     let traits = Traits::new(points, density, year).context("traits beyond their limits")?;
     Ok(rule.operating_price(traits).0)
 }
 
-fn price_of(kind: &str, numbers: &mut Numbers<'_>) -> anyhow::Result<u64> {
-    let prices = numbers.list()?.map(PointPrice);
-    let (points, density, year) = (numbers.take()?, numbers.take()?, numbers.take()?);
+fn price_of(kind: &str, numbers: &mut Numbers<u64>) -> anyhow::Result<u64> {
+    let prices = array::from_fn(|_| PointPrice(numbers.take()));
+    let (points, density, year) = (numbers.take(), numbers.take(), numbers.take());
     match kind {
         "municipal" => price_by::<Municipal>(prices, points, density, year),
         "area-wide" => price_by::<AreaWide>(prices, points, density, year),
@@ -31,16 +33,21 @@ fn price_of(kind: &str, numbers: &mut Numbers<'_>) -> anyhow::Result<u64> {
     }
 }
 
-fn compare_line(tally: &mut Tally<'_>, line: &str) -> anyhow::Result<()> {
+fn compare_line(heap: Global, tally: &mut Tally<'_>, line: &str) -> anyhow::Result<()> {
     let (kind, rest) = line.split_once(' ').context("a rule without its prices")?;
-    let mut numbers = Numbers::of(rest);
+    let mut numbers = Numbers::of(heap, rest)?;
     let found = price_of(kind, &mut numbers)?;
-    tally.compare("operating price", found, numbers.take()?)?;
+    tally.compare("operating price", found, numbers.take())?;
     numbers.finish()
 }
 
 pub fn run(rt: &HostRuntime) -> anyhow::Result<()> {
-    compare_table(rt, "management.txt", compare_line)
+    let heap = rt.alloc();
+    compare_table(
+        rt,
+        "management.txt",
+        |tally, line| compare_line(heap, tally, line),
+    )
 }
 
 pub fn boundaries(rt: &HostRuntime) -> anyhow::Result<()> {

@@ -8,22 +8,23 @@ use revenue::served::Served;
 use tariff::table::Tariff;
 use units::amounts::PointPrice;
 
-fn served(numbers: &mut Numbers<'_>, table: &Tariff) -> anyhow::Result<Served> {
-    Served::of(table, numbers.take()?, numbers.take()?).context(
+fn served(numbers: &mut Numbers<u64>, table: &Tariff) -> anyhow::Result<Served> {
+    Served::of(table, numbers.take(), numbers.take()).context(
         "more served points than a book can have",
     )
 }
 
 // The operating price alone: verification and central cost are none.
-fn costs(numbers: &mut Numbers<'_>) -> anyhow::Result<Costs> {
-    Costs::new(PointPrice(numbers.take()?), 0, 0).context("an operating price beyond its limit")
+fn costs(numbers: &mut Numbers<u64>) -> anyhow::Result<Costs> {
+    Costs::new(PointPrice(numbers.take()), 0, 0).context("an operating price beyond its limit")
 }
 
 fn compare_line(
     tally: &mut Tally<'_>,
-    table: &Tariff,
-    numbers: &mut Numbers<'_>,
+    table: anyhow::Result<&Tariff>,
+    numbers: &mut Numbers<u64>,
 ) -> anyhow::Result<()> {
+    let table = table?;
     let served = served(numbers, table)?;
     let found = served.revenue(table, costs(numbers)?, 0);
     for (what, figure) in [
@@ -34,7 +35,7 @@ fn compare_line(
         ("readings", found.readings),
         ("commercial", found.commercial),
     ] {
-        tally.compare(what, figure, numbers.take()?)?;
+        tally.compare(what, figure, numbers.take())?;
     }
     Ok(())
 }
