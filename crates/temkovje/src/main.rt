@@ -19,9 +19,15 @@ use told::failure::Failure;
 
 const VERSION: &str = "1.0, rattle-kit-13f logic dac8208d650f15bf";
 
-fn main(rt: HostRuntime) -> anyhow::Result<ExitCode> {
+fn main(rt: HostRuntime) -> io::Result<ExitCode> {
     let heap = rt.alloc();
-    let words: Vec<String> = env::args(&rt)?.collect(heap)?;
+    let words: Vec<String> = match env::args(&rt) {
+        Ok(words) => words.collect(heap)?,
+        Err(error) => {
+            eprintln!(rt; "the book file cannot be read: {error}")?;
+            return Ok(ExitCode::FAILURE);
+        }
+    };
     let command = command(heap, VERSION)?;
     match command.try_get_matches_from(words.as_slice()) {
         Ok(matches) => run_files(&rt, &matches),
@@ -33,7 +39,7 @@ fn main(rt: HostRuntime) -> anyhow::Result<ExitCode> {
 }
 
 // Runs the files of the command line, and answers the exit status: 1 where one was not run, else 3 where a call was refused and that is asked for.
-fn run_files(rt: &HostRuntime, matches: &ArgMatches<'_>) -> anyhow::Result<ExitCode> {
+fn run_files(rt: &HostRuntime, matches: &ArgMatches<'_>) -> io::Result<ExitCode> {
     let options = options_of(matches);
     if options.is_template {
         rt.print(TEMPLATE)?;
