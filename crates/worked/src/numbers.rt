@@ -1,5 +1,5 @@
 // The numbers of a line of a table.
-use anyhow::anyhow;
+use anyhow::{Context, anyhow};
 use std::alloc::Global;
 use std::num::ParseIntError;
 use std::str::FromStr;
@@ -17,7 +17,7 @@ impl<N: Copy + Default + Drop + FromStr<Err = ParseIntError>> Numbers<N> {
     pub fn of(heap: Global, line: &str) -> anyhow::Result<Numbers<N>> {
         let mut list = Vec::new(heap);
         for word in line.split_whitespace() {
-            list.push(word.parse::<N>()?)?;
+            list.push(word.parse::<N>()?).ok().context("no memory")?;
         }
         Ok(Numbers {
             rest: list.into_iter(),

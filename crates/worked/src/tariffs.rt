@@ -15,7 +15,7 @@ pub fn tariffs(rt: &HostRuntime) -> anyhow::Result<Vec<Tariff>> {
     let mut tables = Vec::new(heap);
     for line in text.as_str().lines() {
         if !line.starts_with('#') {
-            tables.push(tariff(heap, line)?)?;
+            tables.push(tariff(heap, line)?).ok().context("no memory")?;
         }
     }
     Ok(tables)
